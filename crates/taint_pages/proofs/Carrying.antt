@@ -1,6 +1,6 @@
 -- Pages whose numbers are carried over.
-use Rattle.std.proofs.Common.{◌≡◌, ℕ, ◌+◌, ◌*◌, ◌/◌, ◌%◌, ◌<◌, ◌≤◌, ◌==◌, Bool, true, false, List, length, get_or, set, Option, None, refl, sym, ap, subst, ◌∙◌, arith}
-use Rattle.std.specs.Global.{Vec}
+use Rattle.std.proofs.Common.{◌≡◌, ℕ, ◌+◌, ◌*◌, ◌/◌, ◌%◌, ◌<◌, ◌≤◌, ◌==◌, Bool, true, false, List, length, get_or, set, None, refl, sym, ap, subst, ◌∙◌, arith}
+use Rattle.taint_pages.specs.declared.page.Page.{Page as KeptPage}
 use Rattle.std.proofs.lemmas.Bool.{eqb-true, eqb-false}
 use Rattle.std.proofs.lemmas.Grind.{get_or-set_at}
 use Rattle.std.proofs.lemmas.List.{get_or-set_other, length-set, map-set}
@@ -39,7 +39,7 @@ pub record CarriedTo (begun now : Carried) (u : Unset) (first pages : List Page)
 pub carried-first : (sets : Carried) (u : Unset) (pages : List Page) → AreSound u pages → CarriedTo sets sets u pages pages 0
 carried-first sets u pages sound = record { sound = sound; count = refl; done = λ i below. absurd (omega arith); rest = λ i from. refl; on = record { from = refl; still = λ was is h. h } }
 
-module _ (begun now next : Carried) (u : Unset) (first : List Page) (pages : List (Option (Vec ℕ))) (place : ℕ) (was new : Option (Vec ℕ)) (so : CarriedTo begun now u first (contents pages) place) (inside : place < length pages)
+module _ (begun now next : Carried) (u : Unset) (first : List Page) (pages : List KeptPage) (place : ℕ) (was new : KeptPage) (so : CarriedTo begun now u first (contents pages) place) (inside : place < length pages)
     (read : was ≡ get_or pages place was) (on : CarriesOn now next) (page : IsPage (content new)) where
   there : place < length (contents pages)
   there = subst (λ n. place < n) (sym (length-contents pages)) inside
@@ -78,5 +78,5 @@ pub carried-all : (begun now : Carried) (u : Unset) (first pages : List Page) (p
 carried-all begun now u first pages place so all = record { count = so.count; each = λ i below. so.done i (omega arith) }
 
 -- a place of the pages of before is one of the pages of now
-pub inside-still : (first pages : List (Option (Vec ℕ))) (place : ℕ) → length (contents pages) ≡ length (contents first) → place < length first → place < length pages
+pub inside-still : (first pages : List KeptPage) (place : ℕ) → length (contents pages) ≡ length (contents first) → place < length first → place < length pages
 inside-still first pages place same below = subst (λ n. place < n) (sym (sym (length-contents pages) ∙ same ∙ length-contents first)) below

@@ -1,6 +1,7 @@
 -- Pages one behind the other, byte by byte.
-use Rattle.std.proofs.Common.{◌≡◌, ◌⊎◌, ℕ, zero, suc, ◌+◌, ◌*◌, ◌/◌, ◌%◌, ◌<◌, ◌≤◌, ◌==◌, Bool, true, false, nat_lt, if◌then◌else◌, List, [], ◌∷◌, ◌++◌, length, get_or, set, take, replicate, Option, None, Some, refl, sym, ap, subst, ◌∙◌, arith, length-append, inl, inr}
-use Rattle.std.specs.Global.{Vec}
+use Rattle.std.proofs.Common.{◌≡◌, ◌⊎◌, ℕ, zero, suc, ◌+◌, ◌*◌, ◌/◌, ◌%◌, ◌<◌, ◌≤◌, ◌==◌, Bool, true, false, nat_lt, if◌then◌else◌, List, [], ◌∷◌, ◌++◌, length, get_or, set, take, replicate, None, Some, refl, sym, ap, subst, ◌∙◌, arith, length-append, inl, inr}
+use Rattle.taint_pages.specs.declared.page.Page.{Page as KeptPage}
+use Rattle.taint_pages.specs.declared.page.Page.TheVariants.{Absent}
 use Rattle.std.proofs.Math.ListN.{get_or-eq_default}
 use Rattle.std.proofs.lemmas.Bool.{ltb-true, ltb-false}
 use Rattle.std.proofs.lemmas.Bool.Decides.{Decides-eqb}
@@ -200,28 +201,28 @@ eight-page u pages all at count eight page inside read short few e = record {
 }
 
 -- pages that are all absent
-absent-at : (n i : ℕ) → get_or {A = Page} (contents (replicate n None)) i None ≡ None
+absent-at : (n i : ℕ) → get_or {A = Page} (contents (replicate n Absent)) i None ≡ None
 absent-at zero i = refl
 absent-at (suc n) zero = refl
 absent-at (suc n) (suc i) = absent-at n i
 
-length-absent : (n : ℕ) → length (contents (replicate n None)) ≡ n
+length-absent : (n : ℕ) → length (contents (replicate n Absent)) ≡ n
 length-absent zero = refl
 length-absent (suc n) = ap suc (length-absent n)
 
-ArePages-absent : (n : ℕ) → ArePages (contents (replicate n None))
+ArePages-absent : (n : ℕ) → ArePages (contents (replicate n Absent))
 ArePages-absent n k = subst IsPage (sym (absent-at n k)) tt
 
-pub sound-absent : (u : Unset) (n : ℕ) → FitsIn u (page_len * n) → AreSound u (contents (replicate n None))
+pub sound-absent : (u : Unset) (n : ℕ) → FitsIn u (page_len * n) → AreSound u (contents (replicate n Absent))
 sound-absent u n f = record { whole = ArePages-absent n; fits = subst (λ k. FitsIn u (page_len * k)) (sym (length-absent n)) f }
 
-pub unset-absent : (u : Unset) (n : ℕ) → AreUnset u (page_len * n) (numbers_from u 0 (contents (replicate n None)))
+pub unset-absent : (u : Unset) (n : ℕ) → AreUnset u (page_len * n) (numbers_from u 0 (contents (replicate n Absent)))
 unset-absent u n = record {
-  len = length-pages u 0 (contents (replicate n None)) (ArePages-absent n) ∙ ap (λ (k : ℕ). page_len * k) (length-absent n);
+  len = length-pages u 0 (contents (replicate n Absent)) (ArePages-absent n) ∙ ap (λ (k : ℕ). page_len * k) (length-absent n);
   all = λ k h.
       let whole : k / page_len * page_len + k % page_len ≡ k = omega arith in
       let inside : k / page_len < n = omega arith in
-      index-pages u (contents (replicate n None)) (ArePages-absent n) k (subst (λ m. k / page_len < m) (sym (length-absent n)) inside)
+      index-pages u (contents (replicate n Absent)) (ArePages-absent n) k (subst (λ m. k / page_len < m) (sym (length-absent n)) inside)
       ∙ ap (λ (p : Page). number_in u (k / page_len * page_len) p (k % page_len)) (absent-at n (k / page_len))
       ∙ ap (λ (m : ℕ). unset_number u m) whole;
 }
@@ -254,35 +255,35 @@ zero-at zero j = refl
 zero-at (suc n) zero = refl
 zero-at (suc n) (suc j) = zero-at n j
 
-pub length-contents : (pages : List (Option (Vec ℕ))) → length (contents pages) ≡ length pages
+pub length-contents : (pages : List KeptPage) → length (contents pages) ≡ length pages
 length-contents pages = length-map pages content
 
 -- what a page holds that is read
-pub read-page : (pages : List (Option (Vec ℕ))) (i : ℕ) (page : Option (Vec ℕ)) → i < length (contents pages) → page ≡ get_or pages i page → content page ≡ get_or (contents pages) i None
+pub read-page : (pages : List KeptPage) (i : ℕ) (page : KeptPage) → i < length (contents pages) → page ≡ get_or pages i page → content page ≡ get_or (contents pages) i None
 read-page [] i page h e = absurd (omega arith)
-read-page (x ∷ xs) zero page h e = ap (λ (p : Option (Vec ℕ)). content p) e
+read-page (x ∷ xs) zero page h e = ap (λ (p : KeptPage). content p) e
 read-page (x ∷ xs) (suc i) page h e = read-page xs i page (omega arith) e
 
-pub place-inside : (u : Unset) (pages : List (Option (Vec ℕ))) → AreSound u (contents pages) → (at : ℕ) → at < length (numbers_from u 0 (contents pages)) → at / page_len < length pages
+pub place-inside : (u : Unset) (pages : List KeptPage) → AreSound u (contents pages) → (at : ℕ) → at < length (numbers_from u 0 (contents pages)) → at / page_len < length pages
 place-inside u pages s at h = subst (λ n. at / page_len < n) (length-contents pages) (page-inside u (contents pages) s.whole at h)
 
 pub place-fits : (u : Unset) (pages : List Page) → AreSound u pages → (at : ℕ) → at / page_len < length pages → FitsIn u (at / page_len * page_len + page_len)
 place-fits u pages s at h = fits-within u (page_len * length pages) (at / page_len * page_len + page_len) (omega arith) s.fits
 
-pub sets-page : (u : Unset) (pages : List (Option (Vec ℕ))) → AreSound u (contents pages) → (at number : ℕ) (old new : Option (Vec ℕ)) → at / page_len < length (contents pages) → content old ≡ get_or (contents pages) (at / page_len) None
+pub sets-page : (u : Unset) (pages : List KeptPage) → AreSound u (contents pages) → (at number : ℕ) (old new : KeptPage) → at / page_len < length (contents pages) → content old ≡ get_or (contents pages) (at / page_len) None
     → IsPage (content new) → SetsOne u (at / page_len * page_len) (at % page_len) number (content old) (content new) → Sets at number (numbers_from u 0 (contents pages)) (numbers_from u 0 (contents (set pages (at / page_len) new)))
 sets-page u pages s at number old new inside read page one =
     subst (λ l. Sets at number (numbers_from u 0 (contents pages)) (numbers_from u 0 l)) (sym (map-set content pages (at / page_len) new))
     (sets u (contents pages) s.whole at number inside (content old) (content new) read page one)
 
-pub puts-page : (u : Unset) (pages : List (Option (Vec ℕ))) → AreSound u (contents pages) → (at : ℕ) (numbers : List ℕ) (old new : Option (Vec ℕ)) → at / page_len < length (contents pages) → at % page_len + length numbers ≤ page_len
+pub puts-page : (u : Unset) (pages : List KeptPage) → AreSound u (contents pages) → (at : ℕ) (numbers : List ℕ) (old new : KeptPage) → at / page_len < length (contents pages) → at % page_len + length numbers ≤ page_len
     → content old ≡ get_or (contents pages) (at / page_len) None → IsPage (content new) → PutsIn u (at / page_len * page_len) (at % page_len) numbers (content old) (content new)
     → Puts at numbers (numbers_from u 0 (contents pages)) (numbers_from u 0 (contents (set pages (at / page_len) new)))
 puts-page u pages s at numbers old new inside short read page put =
     subst (λ l. Puts at numbers (numbers_from u 0 (contents pages)) (numbers_from u 0 l)) (sym (map-set content pages (at / page_len) new))
     (puts u (contents pages) s.whole at numbers inside short (content old) (content new) read page put)
 
-pub long-page : (u : Unset) (pages : List (Option (Vec ℕ))) → AreSound u (contents pages) → (i : ℕ) (new : Option (Vec ℕ)) → IsPage (content new)
+pub long-page : (u : Unset) (pages : List KeptPage) → AreSound u (contents pages) → (i : ℕ) (new : KeptPage) → IsPage (content new)
     → length (numbers_from u 0 (contents (set pages i new))) ≡ length (numbers_from u 0 (contents pages))
 long-page u pages s i new page =
     ap (λ l. length (numbers_from u 0 l)) (map-set content pages i new)
@@ -290,17 +291,17 @@ long-page u pages s i new page =
     ∙ ap (λ (n : ℕ). page_len * n) (length-set (contents pages) i (content new))
     ∙ sym (length-pages u 0 (contents pages) s.whole)
 
-pub sound-set : (u : Unset) (pages : List (Option (Vec ℕ))) (i : ℕ) (new : Option (Vec ℕ)) → AreSound u (contents pages) → IsPage (content new) → AreSound u (contents (set pages i new))
+pub sound-set : (u : Unset) (pages : List KeptPage) (i : ℕ) (new : KeptPage) → AreSound u (contents pages) → IsPage (content new) → AreSound u (contents (set pages i new))
 sound-set u pages i new s page =
     subst (AreSound u) (sym (map-set content pages i new)) (record {
       whole = ArePages-set (contents pages) i (content new) s.whole page;
       fits = subst (λ n. FitsIn u (page_len * n)) (sym (length-set (contents pages) i (content new))) s.fits;
     })
 
-pub copied : (pages copy : List (Option (Vec ℕ))) (n : ℕ) → contents copy ≡ take n (contents pages) → length pages ≤ n → contents copy ≡ contents pages
+pub copied : (pages copy : List KeptPage) (n : ℕ) → contents copy ≡ take n (contents pages) → length pages ≤ n → contents copy ≡ contents pages
 copied pages copy n e h = e ∙ take_all n (contents pages) (subst (λ m. m ≤ n) (sym (length-contents pages)) h)
 
-pub copy-more : (pages copy : List (Option (Vec ℕ))) (i : ℕ) (old new : Option (Vec ℕ)) → contents copy ≡ take i (contents pages) → i < length pages → old ≡ get_or pages i old → content new ≡ content old
+pub copy-more : (pages copy : List KeptPage) (i : ℕ) (old new : KeptPage) → contents copy ≡ take i (contents pages) → i < length pages → old ≡ get_or pages i old → content new ≡ content old
     → contents (copy ++ new ∷ []) ≡ take (i + 1) (contents pages)
 copy-more pages copy i old new e h read same =
     let inside : i < length (contents pages) = subst (λ n. i < n) (sym (length-contents pages)) h in

@@ -1,6 +1,7 @@
 -- Numbers of a memory's bytes, in pages.
-use Rattle.std.specs.Prelude.{◌≡◌, ◌⊎◌, ℕ, zero, suc, ◌+◌, ◌*◌, ◌^◌, ◌<◌, ◌≤◌, ◌==◌, ◌&&◌, nat_lt, if◌then◌else◌, List, [], ◌∷◌, ◌++◌, length, map, slice_index, slice_index_or, Option, Some, None, IfSome, option_map}
-use Rattle.std.specs.Global.{Vec}
+use Rattle.std.specs.Prelude.{◌≡◌, ◌⊎◌, ℕ, zero, suc, ◌+◌, ◌*◌, ◌^◌, ◌<◌, ◌≤◌, ◌==◌, ◌&&◌, nat_lt, if◌then◌else◌, List, [], ◌∷◌, ◌++◌, length, map, slice_index, slice_index_or, Option, Some, None, IfSome}
+use Rattle.taint_pages.specs.declared.page.Page.{Page as KeptPage}
+use Rattle.taint_pages.specs.declared.page.Page.TheVariants.{Absent, Own, Shared}
 use Rattle.taint_pages.specs.declared.page.Unset.{Unset}
 use Rattle.taint_pages.specs.declared.page.Unset.TheVariants.{Zero, From}
 
@@ -22,10 +23,12 @@ FitsIn (From first) len = first + len ≤ 2 ^ 32
 abbrev pub Page : Type 0
 Page = Option (List ℕ)
 
-abbrev pub content : Option (Vec ℕ) → Page
-content page = option_map (λ (numbers : Vec ℕ). numbers.items) page
+abbrev pub content : KeptPage → Page
+content Absent = None
+content (Own numbers) = Some numbers.items
+content (Shared numbers) = Some numbers.value.items
 
-abbrev pub contents : List (Option (Vec ℕ)) → List Page
+abbrev pub contents : List KeptPage → List Page
 contents pages = map content pages
 
 -- the number of byte j of the page whose first byte has this place

@@ -13,7 +13,8 @@ use std::alloc::Global;
 use std::marker::Model;
 use taint_spans::Carrying;
 
-/// The number of the set of each byte of a memory. A page whose bytes weren't set takes no memory.
+/// The number of the set of each byte of a memory. A page whose bytes weren't set takes no memory, and neither does one that memories
+/// share, until it is written.
 #[derive(Debug, Drop)]
 pub struct SetNumbers {
     pages: Vec<Page>,
@@ -109,17 +110,20 @@ impl SetNumbers {
         )
     }
 
-    /// The same numbers again.
+    /// Makes the pages that are kept shared ones, for which a copy takes no memory. The numbers stay.
+    pub fn share(&mut self) -> Result<(), NoMemory>
+        ensures { self.new ≡ self.old }
+    {
+        let alloc = *self.pages.allocator();
+        page::share(alloc, self.pages.as_mut_slice())
+    }
+
+    /// The same numbers again. Shared pages are shared, and own ones copied.
     pub fn copy(&self) -> Result<SetNumbers, NoMemory>
         ensures { IfOk result (λ copy. copy ≡ self.now) }
     {
-        let alloc = *self.pages.allocator();
-        let mut pages = Vec::new(alloc);
-        for page in &self.pages {
-            pages.push(page::copy_of(alloc, page)?)?;
-        }
         Ok(SetNumbers {
-            pages,
+            pages: page::copy(*self.pages.allocator(), self.pages.as_slice())?,
             unset: self.unset,
         })
     }

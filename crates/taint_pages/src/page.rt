@@ -1,13 +1,16 @@
 // A page of numbers.
-ghost use Rattle.std.specs.Prelude.{◌≡◌, ◌<◌, ◌≤◌, ◌+◌, ◌*◌, ◌↔◌, ℕ, IsTrue, length, replicate, slice_index, None, Some, IfOk, IfSome, OnOk, OnErr};
+ghost use Rattle.std.specs.Prelude.{◌≡◌, ◌<◌, ◌≤◌, ◌+◌, ◌*◌, ◌↔◌, ℕ, IsTrue, length, option_map, replicate, slice_index, None, Some, IfErr, IfOk, IfSome, OnOk, OnErr};
+ghost use Rattle.taint_pages.specs.declared.page.Page.TheVariants.{Absent};
 ghost use Rattle.taint_pages.specs.declared.page.Unset.{Unset as UnsetBytes};
 ghost use Rattle.arn_base.specs.Disk.{overwrite};
 ghost use Rattle.taint_pages.specs.Carried.{CarriesPage};
 ghost use Rattle.taint_spans.specs.Carried.{CarriesOn};
-ghost use Rattle.taint_pages.specs.Pages.{AreEight, AreEightOf, FitsIn, HaveUnset, IsPage, PutsIn, SetsOne, content, number_in, page_len, unset_number};
+ghost use Rattle.taint_pages.specs.Pages.{AreEight, AreEightOf, FitsIn, HaveUnset, IsPage, PutsIn, SetsOne, content, contents, number_in, page_len, unset_number};
 
 use arn_base::NoMemory;
-use std::alloc::Global;
+use core::mem::replace_with;
+use std::alloc::{AllocFailed, Global};
+use std::rc::Rc;
 use taint_spans::{Carrying, FIRST_RECEIVED};
 
 /// How many bytes a page is for.
@@ -22,8 +25,101 @@ pub enum Unset {
     From(u32),
 }
 
-/// The numbers of the bytes of a page. One whose bytes weren't set may be absent.
-pub type Page = Option<Vec<u32>>;
+/// The numbers of the bytes of a page. Those of bytes that weren't set may be absent. Kept ones are the memory's own, or shared with
+/// other memories, which have the same, until they are written.
+#[derive(Debug, Drop)]
+pub enum Page {
+    Absent,
+    Own(Vec<u32>),
+    Shared(Rc<Vec<u32>>),
+}
+
+impl Page {
+    /// The numbers of a page that is kept.
+    #[inline(always)]
+    fn numbers(&self) -> Option<&[u32]>
+        ensures { option_map (λ numbers. numbers.now) result ≡ content self.now }
+    {
+        match self {
+            Page::Own(numbers) => Some(numbers.as_slice()),
+            Page::Absent => None,
+            Page::Shared(numbers) => Some(numbers.as_slice()),
+        }
+    }
+
+    /// The same page again: shared where it is shared, and else copied.
+    pub fn copy(&self, alloc: Global) -> Result<Page, NoMemory>
+        ensures { IfOk result (λ copy. content copy ≡ content self.now) }
+    {
+        match self {
+            Page::Absent => Ok(Page::Absent),
+            Page::Own(numbers) => Ok(Page::Own(Vec::from_slice(alloc, numbers.as_slice())?)),
+            Page::Shared(numbers) => Ok(Page::Shared(numbers.clone()?)),
+        }
+    }
+
+    /// Makes an own page a shared one. Its numbers stay.
+    pub fn share(&mut self, alloc: Global) -> Result<(), NoMemory>
+        ensures { content self.new ≡ content self.old }
+    {
+        replace_with(self, alloc, shared)
+    }
+
+    /// Takes the numbers out of a page that is kept, which is absent then. They are copied where other pages share them.
+    fn take(&mut self, alloc: Global) -> Result<Option<Vec<u32>>, NoMemory>
+        ensures ok { IfOk result (λ taken.
+            option_map (λ numbers. numbers.items) taken ≡ content self.old) }
+        ensures absent { OnOk result (self.new ≡ Absent) }
+        ensures err { OnErr result (self.new ≡ self.old) }
+    {
+        replace_with(self, alloc, taken)
+    }
+}
+
+/// A page that isn't an own one, of the same numbers.
+fn shared(page: Page, alloc: Global) -> (Page, Result<(), NoMemory>)
+    ensures { content result.0 ≡ content page }
+{
+    match page {
+        Page::Own(numbers) => match Rc::new(alloc, numbers) {
+            Ok(numbers) => (Page::Shared(numbers), Ok(())),
+            Err(AllocFailed { value }) => (Page::Own(value), Err(NoMemory)),
+        },
+        Page::Absent => (Page::Absent, Ok(())),
+        Page::Shared(numbers) => (Page::Shared(numbers), Ok(())),
+    }
+}
+
+/// An absent page, and the numbers that were kept.
+fn taken(page: Page, alloc: Global) -> (Page, Result<Option<Vec<u32>>, NoMemory>)
+    ensures ok { IfOk result.1 (λ taken.
+        option_map (λ numbers. numbers.items) taken ≡ content page) }
+    ensures absent { OnOk result.1 (result.0 ≡ Absent) }
+    ensures err { OnErr result.1 (result.0 ≡ page) }
+{
+    match page {
+        Page::Absent => (Page::Absent, Ok(None)),
+        Page::Own(numbers) => (Page::Absent, Ok(Some(numbers))),
+        Page::Shared(numbers) => match unshared(numbers, alloc) {
+            Ok(numbers) => (Page::Absent, Ok(Some(numbers))),
+            Err(numbers) => (Page::Shared(numbers), Err(NoMemory)),
+        },
+    }
+}
+
+/// Numbers that nobody else shares. Where nobody shares these, this takes no memory.
+fn unshared(numbers: Rc<Vec<u32>>, alloc: Global) -> Result<Vec<u32>, Rc<Vec<u32>>>
+    ensures ok { IfOk result (λ own. own.items ≡ numbers.value.items) }
+    ensures err { IfErr result (λ same. same ≡ numbers) }
+{
+    match Rc::try_unwrap(numbers) {
+        Ok(numbers) => Ok(numbers),
+        Err(numbers) => match Vec::from_slice(alloc, numbers.as_slice()) {
+            Ok(copy) => Ok(copy),
+            Err(_) => Err(numbers),
+        },
+    }
+}
 
 /// The number of a byte that wasn't set.
 #[inline(always)]
@@ -46,7 +142,7 @@ pub fn number_of(unset: Unset, base: usize, page: &Page, at: usize) -> u32
     requires fits { FitsIn unset (base + page_len) }
     ensures { result ≡ number_in unset base (content page.now) at }
 {
-    match page {
+    match page.numbers() {
         Some(numbers) => numbers[at],
         None => unset_at(unset, base, at),
     }
@@ -82,10 +178,40 @@ pub fn set_number(
     ensures page { IsPage (content page.new) }
     ensures ok { OnOk result
         (SetsOne unset base at number (content page.old) (content page.new)) }
-    ensures err { OnErr result (page.new ≡ page.old) }
+    ensures err { OnErr result (content page.new ≡ content page.old) }
 {
     match page {
-        Some(numbers) => numbers[at] = number,
+        Page::Own(kept) => {
+            kept[at] = number;
+            Ok(())
+        }
+        _ => set_apart(alloc, unset, base, page, at, number),
+    }
+}
+
+/// The same of a page that isn't an own one, and becomes one.
+#[inline(never)]
+fn set_apart(
+    alloc: Global,
+    unset: Unset,
+    base: usize,
+    page: &mut Page,
+    at: usize,
+    number: u32,
+) -> Result<(), NoMemory>
+    requires page { IsPage (content page.old) }
+    requires inside { at < page_len }
+    requires fits { FitsIn unset (base + page_len) }
+    ensures page { IsPage (content page.new) }
+    ensures ok { OnOk result
+        (SetsOne unset base at number (content page.old) (content page.new)) }
+    ensures err { OnErr result (content page.new ≡ content page.old) }
+{
+    match page.take(alloc)? {
+        Some(mut kept) => {
+            kept[at] = number;
+            *page = Page::Own(kept);
+        }
         None => *page = made_for(alloc, unset, base, at, number)?,
     }
     Ok(())
@@ -105,11 +231,11 @@ fn made_for(
     ensures one { IfOk result (λ page. SetsOne unset base at number None (content page)) }
 {
     if number == unset_at(unset, base, at) {
-        return Ok(None);
+        return Ok(Page::Absent);
     }
     let mut numbers = unset_page(alloc, unset, base)?;
     numbers[at] = number;
-    Ok(Some(numbers))
+    Ok(Page::Own(numbers))
 }
 
 /// The numbers of so many bytes of a page that has them, at most eight, and zeros behind them.
@@ -151,7 +277,7 @@ pub fn eight_of(unset: Unset, base: usize, page: &Page, at: usize, len: usize) -
     requires fits { FitsIn unset (base + page_len) }
     ensures { AreEightOf unset base (content page.now) at len result }
 {
-    match page {
+    match page.numbers() {
         Some(numbers) => eight_kept(numbers, at, len),
         None => eight_unset(unset, base, at, len),
     }
@@ -166,7 +292,7 @@ pub fn kept_in(page: &Page, at: usize, len: usize) -> Option<&[u32]>
     ensures numbers { (unset : UnsetBytes) → (base : ℕ) → IfSome result (λ numbers. (i : ℕ) → i < len →
         slice_index numbers.now i ≡ number_in unset base (content page.now) (at + i)) }
 {
-    match page {
+    match page.numbers() {
         Some(numbers) => Some(&numbers[at..at + len]),
         None => None,
     }
@@ -215,15 +341,41 @@ pub fn put_numbers(
     ensures page { IsPage (content page.new) }
     ensures ok { OnOk result
         (PutsIn unset base at numbers.now (content page.old) (content page.new)) }
-    ensures err { OnErr result (page.new ≡ page.old) }
+    ensures err { OnErr result (content page.new ≡ content page.old) }
 {
     match page {
-        Some(kept) => overwrite(kept, at, numbers),
-        None => {
-            if !have_unset(unset, base, at, numbers) {
-                *page = Some(made_of(alloc, unset, base, at, numbers)?);
-            }
+        Page::Own(kept) => {
+            overwrite(kept, at, numbers);
+            Ok(())
         }
+        _ => put_apart(alloc, unset, base, page, at, numbers),
+    }
+}
+
+/// The same of a page that isn't an own one, and becomes one.
+#[inline(never)]
+fn put_apart(
+    alloc: Global,
+    unset: Unset,
+    base: usize,
+    page: &mut Page,
+    at: usize,
+    numbers: &[u32],
+) -> Result<(), NoMemory>
+    requires page { IsPage (content page.old) }
+    requires inside { at + length numbers.now ≤ page_len }
+    requires fits { FitsIn unset (base + page_len) }
+    ensures page { IsPage (content page.new) }
+    ensures ok { OnOk result
+        (PutsIn unset base at numbers.now (content page.old) (content page.new)) }
+    ensures err { OnErr result (content page.new ≡ content page.old) }
+{
+    match page.take(alloc)? {
+        Some(mut kept) => {
+            overwrite(&mut kept, at, numbers);
+            *page = Page::Own(kept);
+        }
+        None => *page = made_of(alloc, unset, base, at, numbers)?,
     }
     Ok(())
 }
@@ -235,15 +387,18 @@ fn made_of(
     base: usize,
     at: usize,
     numbers: &[u32],
-) -> Result<Vec<u32>, NoMemory>
+) -> Result<Page, NoMemory>
     requires inside { at + length numbers.now ≤ page_len }
     requires fits { FitsIn unset (base + page_len) }
-    ensures len { IfOk result (λ kept. length kept.items ≡ page_len) }
-    ensures put { IfOk result (λ kept. PutsIn unset base at numbers.now None (Some kept.items)) }
+    ensures page { IfOk result (λ page. IsPage (content page)) }
+    ensures put { IfOk result (λ page. PutsIn unset base at numbers.now None (content page)) }
 {
+    if have_unset(unset, base, at, numbers) {
+        return Ok(Page::Absent);
+    }
     let mut kept = unset_page(alloc, unset, base)?;
     overwrite(&mut kept, at, numbers);
-    Ok(kept)
+    Ok(Page::Own(kept))
 }
 
 /// The numbers that bytes of a page which weren't set have from now on.
@@ -280,13 +435,14 @@ fn carry_unset(
     carrying.keeps();
     match unset {
         Unset::From(first) if first < FIRST_RECEIVED => {
-            Ok(Some(carry_made(alloc, carrying, unset, place * PAGE_LEN)?))
+            let numbers = carry_made(alloc, carrying, unset, place * PAGE_LEN)?;
+            Ok(Page::Own(numbers))
         }
-        _ => Ok(None),
+        _ => Ok(Page::Absent),
     }
 }
 
-/// Gives each byte of the page at a place the number that its set has from now on.
+/// Gives each byte of the page at a place the number that its set has from now on. A shared page becomes an own one.
 pub fn carry_page(
     alloc: Global,
     carrying: &mut Carrying,
@@ -301,30 +457,44 @@ pub fn carry_page(
         (content page.old) (content page.new)) }
     ensures on { CarriesOn carrying.old carrying.new }
 {
-    match page {
-        Some(numbers) => carrying.carry_all(numbers)?,
+    match page.take(alloc)? {
+        Some(mut numbers) => {
+            carrying.carry_all(&mut numbers)?;
+            *page = Page::Own(numbers);
+        }
         None => *page = carry_unset(alloc, carrying, unset, place)?,
     }
     Ok(())
 }
 
-/// The same page again.
-pub fn copy_of(alloc: Global, page: &Page) -> Result<Page, NoMemory>
-    ensures { IfOk result (λ copy. content copy ≡ content page.now) }
+/// Makes each own page a shared one. The numbers stay.
+pub fn share(alloc: Global, pages: &mut [Page]) -> Result<(), NoMemory>
+    ensures { contents pages.new ≡ contents pages.old }
 {
-    match page {
-        Some(numbers) => Ok(Some(Vec::from_slice(alloc, numbers.as_slice())?)),
-        None => Ok(None),
+    for place in 0..pages.len() {
+        pages[place].share(alloc)?;
     }
+    Ok(())
+}
+
+/// The same pages again: shared ones are shared, and own ones copied.
+pub fn copy(alloc: Global, pages: &[Page]) -> Result<Vec<Page>, NoMemory>
+    ensures { IfOk result (λ copy. contents copy.items ≡ contents pages.now) }
+{
+    let mut copies = Vec::with_capacity(alloc, pages.len())?;
+    for page in pages {
+        copies.push(page.copy(alloc)?)?;
+    }
+    Ok(copies)
 }
 
 /// So many pages that are absent.
 pub fn absent(alloc: Global, count: usize) -> Result<Vec<Page>, NoMemory>
-    ensures { IfOk result (λ pages. pages.items ≡ replicate count None) }
+    ensures { IfOk result (λ pages. pages.items ≡ replicate count Absent) }
 {
     let mut pages = Vec::new(alloc);
     for _ in 0..count {
-        pages.push(None)?;
+        pages.push(Page::Absent)?;
     }
     Ok(pages)
 }

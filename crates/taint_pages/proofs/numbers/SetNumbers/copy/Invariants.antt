@@ -1,6 +1,0 @@
-use Rattle.std.proofs.Common.{◌≡◌, take}
-use Rattle.taint_pages.specs.Pages.{contents}
-use Rattle.taint_pages.proofs.numbers.SetNumbers.copy.Given as goal
-
-abbrev pub invariant-loop-page : goal.invariant-loop-page
-invariant-loop-page l = contents l.pages.items ≡ take l.page-index (contents l.page-items)
