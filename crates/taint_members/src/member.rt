@@ -88,14 +88,16 @@ impl MemberSets {
     }
 
     /// The child of a fork: its registers, but the result, its slot and its window have what its parent's have. The
-    /// event makes its window.
-    pub fn child(&self, event: u64) -> Result<MemberSets, NoMemory>
-        ensures result { IfOk result (λ child. ClearsResult self.now.registers child.registers) }
-        ensures others { IfOk result (λ child. child ≡ record self.now {
+    /// event makes its window. The parent stays as it is. Both share the pages of their windows until they are written.
+    pub fn child(&mut self, event: u64) -> Result<MemberSets, NoMemory>
+        ensures result { IfOk result (λ child. ClearsResult self.old.registers child.registers) }
+        ensures others { IfOk result (λ child. child ≡ record self.old {
           registers = child.registers;
           made = event;
         }) }
+        ensures parent { self.new ≡ self.old }
     {
+        self.window.share()?;
         let mut registers = self.registers.copy();
         clear_result(&mut registers);
         Ok(MemberSets {
