@@ -1,5 +1,5 @@
 -- Tables in which one member changes or begins.
-use Rattle.std.proofs.Common.{◌≡◌, ◌≢◌, ◌⊎◌, inl, inr, ℕ, zero, suc, ◌==◌, Bool, true, false, List, [], ◌∷◌, map, slice_set, Option, Some, None, IfSome, option_map, refl, sym, subst, ap, ◌∙◌}
+use Rattle.std.proofs.Common.{◌≡◌, ◌≢◌, inl, inr, ℕ, zero, suc, ◌==◌, Bool, true, false, List, [], ◌∷◌, map, slice_set, Option, Some, None, IfSome, option_map, refl, sym, subst, ap, ◌∙◌}
 use Rattle.std.proofs.lemmas.Bool.{eqb-true, eqb-false}
 use Rattle.parts_model.specs.Numbered.{nth}
 use Rattle.taint_members.specs.Access.{HoldsKey, Segments}
@@ -11,7 +11,7 @@ use Rattle.taint_group.proofs.Changes.{Adds, Changes, HoldsSame, TablesBecome, T
 use Rattle.taint_state.specs.Events.{Hears}
 use Rattle.taint_state.specs.Kept.{KeptHeard}
 use Rattle.taint_state.specs.RunsShow.{kept_member}
-use Rattle.taint_group.specs.Tables.{AreKeyed, AreSoundTables, HaveOneKey, kept_in}
+use Rattle.taint_group.specs.Tables.{AreKeyed, AreSoundTables, HaveOneKey}
 use Rattle.taint_group.proofs.Tables.{nth-map, nth-other}
 
 pub nth-put : {X : Type 0} (xs : List (Option X)) (k : ℕ) (x : X) (y : Option X) → nth xs k ≡ Some x → nth (slice_set xs k y) k ≡ y

@@ -17,6 +17,10 @@ use Rattle.taint_group.proofs.Tables.{TablesGoOn, tables-run}
 pub slice-back : {X : Type 0} (n : ℕ) (old new : List X) → length new ≡ n → take n (new ++ drop (length new) old) ≡ new
 slice-back n old new e = subst (λ k. take k (new ++ drop (length new) old) ≡ new) e (take-append_seam new (drop (length new) old))
 
+-- what was lent, and stayed as it was, is back
+pub slice-same : {X : Type 0} (n : ℕ) (old lent new : List X) → lent ≡ old → new ≡ lent → length old ≡ n → take n (new ++ drop (length new) old) ≡ old
+slice-same n old lent new same still e = slice-back n old new (ap length (still ∙ same) ∙ e) ∙ still ∙ same
+
 pub ok-map : {A E P Q : Type 0} (r : Result A E) → (P → Q) → OnOk r P → OnOk r Q
 ok-map (Ok a) f h = f h
 ok-map (Err e) f h = tt

@@ -1,5 +1,5 @@
 -- What events make of the members in a table, one at a time.
-use Rattle.std.specs.Prelude.{◌≡◌, ◌≢◌, ◌⊎◌, ◌↔◌, ◌<◌, ◌≤◌, ℕ, ◌==◌, if◌then◌else◌, List, [], length, slice_index, slice_index_or, slice_set, Option, Some, None, IfSome}
+use Rattle.std.specs.Prelude.{◌≡◌, ◌≢◌, ◌↔◌, ◌<◌, ◌≤◌, ℕ, ◌==◌, if◌then◌else◌, List, [], length, slice_index, slice_index_or, slice_set, Option, Some, None, IfSome}
 use Rattle.parts_model.specs.declared.limits.TheConstants.{SEGMENT_LEN}
 use Rattle.parts_model.specs.Numbered.{nth}
 use Rattle.taint_events.specs.Beginning.{AreItemsFrom, AreItemsOfRow, BeginsRegisters}

@@ -1,5 +1,5 @@
 // A child that joins the group.
-ghost use Rattle.std.specs.Prelude.{IfOk, OnOk};
+ghost use Rattle.std.specs.Prelude.{◌≡◌, IfOk, OnOk};
 ghost use Rattle.acts_model.specs.Transfers.{Forks, Holds};
 ghost use Rattle.parts_model.specs.Numbered.{nth};
 ghost use Rattle.taint_group.specs.Groups.{IsSoundGroup};
@@ -13,17 +13,31 @@ use taint_events::empty;
 use taint_members::MemberSets;
 use taint_state::forks_show;
 
+/// The child of a member that may be there.
+fn entry_child(entry: &mut Option<MemberSets>, event: u64) -> Result<Option<MemberSets>, NoMemory>
+    ensures child { IfOk result (HasChild event entry.old) }
+    ensures same { entry.new ≡ entry.old }
+{
+    match entry {
+        Some(member) => Ok(Some(member.child(event)?)),
+        None => Ok(None),
+    }
+}
+
 /// The child of the member of a number, if there is one.
 fn child_of(
-    members: &[Option<MemberSets>],
+    members: &mut [Option<MemberSets>],
     pid: u32,
     event: u64,
 ) -> Result<Option<MemberSets>, NoMemory>
-    ensures { IfOk result (HasChild event (nth members.now pid)) }
+    ensures child { IfOk result (HasChild event (nth members.old pid)) }
+    ensures same { members.new ≡ members.old }
 {
-    match members.get(pid as usize) {
-        Some(Some(member)) => Ok(Some(member.child(event)?)),
-        _ => Ok(None),
+    let place = pid as usize;
+    if place < members.len() {
+        entry_child(&mut members[place], event)
+    } else {
+        Ok(None)
     }
 }
 
@@ -51,7 +65,7 @@ impl Group {
     {
         forks_show();
         let numbers = empty(*self.members.allocator(), len)?;
-        let kid = child_of(self.members.as_slice(), pid, event)?;
+        let kid = child_of(self.members.as_mut_slice(), pid, event)?;
         return_member(self.members.as_mut_slice(), pid);
         may_place(&mut self.members, child, kid)?;
         self.heard.hear(event, numbers)

@@ -28,10 +28,11 @@ fn start_of(child: MemberSets) -> ChildStart
 /// What the child of a member that may be there begins with.
 fn entry_start(
     alloc: Global,
-    entry: &Option<MemberSets>,
+    entry: &mut Option<MemberSets>,
     event: u64,
 ) -> Result<Option<Box<ChildStart>>, NoMemory>
-    ensures { IfOk result (λ start. StartsChild entry.now start) }
+    ensures start { IfOk result (λ start. StartsChild entry.old start) }
+    ensures same { entry.new ≡ entry.old }
 {
     match entry {
         Some(member) => Ok(Some(Box::new(alloc, start_of(member.child(event)?))?)),
@@ -42,15 +43,16 @@ fn entry_start(
 /// What the child of the member of a number begins with, if there is one.
 fn child_start(
     alloc: Global,
-    members: &[Option<MemberSets>],
+    members: &mut [Option<MemberSets>],
     pid: u32,
     event: u64,
 ) -> Result<Option<Box<ChildStart>>, NoMemory>
-    ensures { IfOk result (λ start. StartsChild (nth members.now pid) start) }
+    ensures start { IfOk result (λ start. StartsChild (nth members.old pid) start) }
+    ensures same { members.new ≡ members.old }
 {
     let place = pid as usize;
     if place < members.len() {
-        entry_start(alloc, &members[place], event)
+        entry_start(alloc, &mut members[place], event)
     } else {
         Ok(None)
     }
@@ -68,7 +70,7 @@ impl Group {
         founds_show();
         let alloc = *self.members.allocator();
         let numbers = empty(alloc, len)?;
-        let start = child_start(alloc, self.members.as_slice(), pid, event)?;
+        let start = child_start(alloc, self.members.as_mut_slice(), pid, event)?;
         return_member(self.members.as_mut_slice(), pid);
         self.heard.hear_child(event, numbers, start)
     }
