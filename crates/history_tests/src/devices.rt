@@ -1,10 +1,10 @@
 // Sessions whose programs read and write devices, and what is printed for them.
-use crate::same::assert_same;
-use arn_base::{Bytes, Device, Numbers, Reply, Took};
+use crate::sessions::assert_ends;
+use arn_base::{Bytes, Device, NoMemory, Numbers, Reply, Took};
 use arn_session::Status;
 use guest_devices::{ScriptDevice, ScriptReply};
 use log_disk::{FuseDisk, MemDisk};
-use session_trials::{Script, run_with};
+use session_trials::Script;
 use std::process::Abort;
 use std::test::Fail;
 
@@ -207,62 +207,6 @@ const REFUSED_PRINTS: &str = "\
     event 36 126 1 call.1.0 1\n\
     events 37\n";
 
-/// A device that fails once, then gives three bytes at once, and takes three bytes.
-fn device(rt: &impl AllocGlobal) -> Result<Box<dyn Device>, Fail> {
-    let mut replies = Vec::new(rt.alloc());
-    replies.push(ScriptReply::Fault)?;
-    replies.push(ScriptReply::Bytes(Bytes::from_slice(rt.alloc(), &[1, 2, 3])?))?;
-    let device = ScriptDevice::new(rt.alloc(), replies, 3)?;
-    Ok(Box::new(rt.alloc(), device)?)
-}
-
-/// So many such devices in slots, from slot 0 on.
-fn devices(rt: &impl AllocGlobal, count: usize) -> Result<Vec<Option<Box<dyn Device>>>, Fail> {
-    let mut slots = Vec::new(rt.alloc());
-    for _ in 0..count {
-        slots.push(Some(device(rt)?))?;
-    }
-    Ok(slots)
-}
-
-/// A session with so many devices over the log of a disk prints this, and leaves these slots filled.
-fn assert_prints(
-    rt: &(impl Abort + AllocGlobal),
-    disk: &mut MemDisk,
-    text: &str,
-    prints: &str,
-    count: usize,
-    filled: &[bool],
-) -> Result<(), Fail> {
-    let script = Script::of(text.as_bytes());
-    let ended = run_with(rt.alloc(), &["log"], &script, disk, devices(rt, count)?)?;
-    assert_same(rt, ended.status, Status::Done);
-    let told = String::from_utf8_lossy(rt.alloc(), ended.sink.bytes())?;
-    assert_same(rt, told.as_str(), prints);
-    assert_same(rt, ended.filled.as_slice(), filled);
-    Ok(())
-}
-
-#[test]
-fn a_device_gives_until_it_is_unplugged(rt: HostRuntime) -> Result<(), Fail> {
-    let mut disk = MemDisk::new(rt.alloc(), Bytes::new(rt.alloc()));
-    assert_prints(&rt, &mut disk, READER, READER_PRINTS, 1, &[false])?;
-    assert_prints(&rt, &mut disk, LATER, LATER_PRINTS, 0, &[])?;
-    assert_prints(&rt, &mut disk, AGAIN, AGAIN_PRINTS, 2, &[true, false])
-}
-
-#[test]
-fn what_is_refused_asks_no_device(rt: HostRuntime) -> Result<(), Fail> {
-    let mut disk = MemDisk::new(rt.alloc(), Bytes::new(rt.alloc()));
-    assert_prints(&rt, &mut disk, REFUSED, REFUSED_PRINTS, 2, &[false, true])
-}
-
-#[test]
-fn a_device_takes_what_fits(rt: HostRuntime) -> Result<(), Fail> {
-    let mut disk = MemDisk::new(rt.alloc(), Bytes::new(rt.alloc()));
-    assert_prints(&rt, &mut disk, WRITER, WRITER_PRINTS, 1, &[true])
-}
-
 /// A device that fails at each call.
 #[derive(Drop)]
 struct Broken;
@@ -316,18 +260,6 @@ const FAULTS_PRINTS: &str = "\
     event 8 24 1 call.1.0 1\n\
     event 9 27 2 call.1.0 1\n\
     events 10\n";
-
-#[test]
-fn a_device_fails(rt: HostRuntime) -> Result<(), Fail> {
-    let mut disk = MemDisk::new(rt.alloc(), Bytes::new(rt.alloc()));
-    let device: Box<dyn Device> = Box::new(rt.alloc(), Broken)?;
-    let slots = vec![in rt.alloc(); Some(device)]?;
-    let script = Script::of(FAULTS.as_bytes());
-    let ended = run_with(rt.alloc(), &["log"], &script, &mut disk, slots)?;
-    let told = String::from_utf8_lossy(rt.alloc(), ended.sink.bytes())?;
-    assert_same(&rt, told.as_str(), FAULTS_PRINTS);
-    Ok(())
-}
 
 /// A device that fills each buffer with aa and, from the second byte on, bb, and then counts far more bytes
 /// than it gave or was handed.
@@ -409,17 +341,131 @@ const HANDS_PRINTS: &str = "\
     event 4 11 1 call.1.0 1\n\
     events 5\n";
 
+/// What kind of device there is.
+#[derive(Clone, Copy)]
+enum Kind {
+    /// Fails once, then gives three bytes at once, and takes three bytes.
+    Scripted,
+    /// Fails at each call.
+    Broken,
+    /// Counts more bytes than it was asked for or handed.
+    Boasting,
+}
+
+fn scripted(rt: &impl AllocGlobal) -> Result<ScriptDevice, NoMemory> {
+    let mut replies = Vec::new(rt.alloc());
+    replies.push(ScriptReply::Fault)?;
+    replies.push(ScriptReply::Bytes(Bytes::from_slice(rt.alloc(), &[1, 2, 3])?))?;
+    ScriptDevice::new(rt.alloc(), replies, 3)
+}
+
+fn device(rt: &impl AllocGlobal, kind: Kind) -> Result<Box<dyn Device>, NoMemory> {
+    let device: Box<dyn Device> = match kind {
+        Kind::Scripted => Box::new(rt.alloc(), scripted(rt)?)?,
+        Kind::Broken => Box::new(rt.alloc(), Broken)?,
+        Kind::Boasting => Box::new(rt.alloc(), Boasting)?,
+    };
+    Ok(device)
+}
+
+/// Devices of these kinds in slots, from slot 0 on.
+fn devices(
+    rt: &impl AllocGlobal,
+    kinds: &[Kind],
+) -> Result<Vec<Option<Box<dyn Device>>>, NoMemory> {
+    let mut slots = Vec::new(rt.alloc());
+    for kind in kinds {
+        slots.push(Some(device(rt, *kind)?))?;
+    }
+    Ok(slots)
+}
+
+/// A session with devices, what it prints, and which slots are filled then.
+struct Session {
+    text: &'static str,
+    devices: &'static [Kind],
+    prints: &'static str,
+    filled: &'static [bool],
+}
+
+const SESSIONS: &[&[Session]] = &[
+    // A device gives until it is unplugged, and a later session has another in its slot.
+    &[
+        Session {
+            text: READER,
+            devices: &[Kind::Scripted],
+            prints: READER_PRINTS,
+            filled: &[false],
+        },
+        Session {
+            text: LATER,
+            devices: &[],
+            prints: LATER_PRINTS,
+            filled: &[],
+        },
+        Session {
+            text: AGAIN,
+            devices: &[Kind::Scripted, Kind::Scripted],
+            prints: AGAIN_PRINTS,
+            filled: &[true, false],
+        },
+    ],
+    // What is refused asks no device.
+    &[Session {
+        text: REFUSED,
+        devices: &[Kind::Scripted, Kind::Scripted],
+        prints: REFUSED_PRINTS,
+        filled: &[false, true],
+    }],
+    // A device takes what fits.
+    &[Session {
+        text: WRITER,
+        devices: &[Kind::Scripted],
+        prints: WRITER_PRINTS,
+        filled: &[true],
+    }],
+    // A device fails.
+    &[Session {
+        text: FAULTS,
+        devices: &[Kind::Broken],
+        prints: FAULTS_PRINTS,
+        filled: &[true],
+    }],
+    // A count is cut to what was asked for.
+    &[Session {
+        text: BOASTS,
+        devices: &[Kind::Boasting],
+        prints: BOASTS_PRINTS,
+        filled: &[true],
+    }],
+    &[Session {
+        text: HANDS,
+        devices: &[Kind::Boasting],
+        prints: HANDS_PRINTS,
+        filled: &[true],
+    }],
+];
+
+/// Sessions with devices, one after the other on one log, print this.
+fn assert_prints(
+    rt: &(impl Abort + AllocGlobal),
+    disk: &mut MemDisk,
+    sessions: &[Session],
+) -> Result<(), NoMemory> {
+    for session in sessions {
+        let script = Script::of(session.text.as_bytes());
+        let slots = devices(rt, session.devices)?;
+        let wanted = (Status::Done, session.prints, session.filled);
+        assert_ends(rt, disk, &script, slots, wanted)?;
+    }
+    Ok(())
+}
+
 #[test]
-fn a_count_is_cut_to_what_was_asked_for(rt: HostRuntime) -> Result<(), Fail> {
-    for (text, prints) in [(BOASTS, BOASTS_PRINTS), (HANDS, HANDS_PRINTS)] {
+fn devices_give_and_take(rt: HostRuntime) -> Result<(), Fail> {
+    for sessions in SESSIONS {
         let mut disk = MemDisk::new(rt.alloc(), Bytes::new(rt.alloc()));
-        let device: Box<dyn Device> = Box::new(rt.alloc(), Boasting)?;
-        let slots = vec![in rt.alloc(); Some(device)]?;
-        let script = Script::of(text.as_bytes());
-        let ended = run_with(rt.alloc(), &["log"], &script, &mut disk, slots)?;
-        assert_same(&rt, ended.status, Status::Done);
-        let told = String::from_utf8_lossy(rt.alloc(), ended.sink.bytes())?;
-        assert_same(&rt, told.as_str(), prints);
+        assert_prints(&rt, &mut disk, sessions)?;
     }
     Ok(())
 }
@@ -432,17 +478,23 @@ const UNPLUGGED: &str = "\
     boot p\n\
     unplug 0\n";
 
+/// What is printed before the device is unplugged.
+const BEFORE: &str = "event 0\nevent 1\n";
+
 /// A session on an empty disk of which this call fails ends there. The device is gone then.
-fn assert_gone(rt: &(impl Abort + AllocGlobal), call: u32) -> Result<(), Fail> {
+fn assert_gone(rt: &(impl Abort + AllocGlobal), call: u32) -> Result<(), NoMemory> {
     let mut fails = Numbers::new(rt.alloc());
     fails.push(call)?;
     let mut disk = FuseDisk::new(rt.alloc(), Bytes::new(rt.alloc()), fails);
     let script = Script::of(UNPLUGGED.as_bytes());
-    let ended = run_with(rt.alloc(), &["log"], &script, &mut disk, devices(rt, 1)?)?;
-    assert_same(rt, (call, ended.status), (call, Status::Disk));
-    assert_same(rt, ended.sink.bytes(), b"event 0\nevent 1\n".as_slice());
-    assert_same(rt, ended.filled.as_slice(), [false].as_slice());
-    Ok(())
+    let slots = devices(rt, &[Kind::Scripted])?;
+    assert_ends(
+        rt,
+        &mut disk,
+        &script,
+        slots,
+        (Status::Disk, BEFORE, &[false]),
+    )
 }
 
 #[test]
@@ -461,6 +513,13 @@ const UNPLUGGED_EVENTS: &str = "\
     event 2 0 - unplug.0 0\n\
     events 3\n";
 
+const LATER_UNPLUGGED: &[Session] = &[Session {
+    text: "events\n",
+    devices: &[Kind::Scripted],
+    prints: UNPLUGGED_EVENTS,
+    filled: &[true],
+}];
+
 #[test]
 fn a_device_is_gone_though_the_answer_is_lost(rt: HostRuntime) -> Result<(), Fail> {
     let mut disk = MemDisk::new(rt.alloc(), Bytes::new(rt.alloc()));
@@ -468,9 +527,14 @@ fn a_device_is_gone_though_the_answer_is_lost(rt: HostRuntime) -> Result<(), Fai
         sink_fails: &[2],
         ..Script::of(UNPLUGGED.as_bytes())
     };
-    let ended = run_with(rt.alloc(), &["log"], &script, &mut disk, devices(&rt, 1)?)?;
-    assert_same(&rt, ended.status, Status::Sink);
-    assert_same(&rt, ended.sink.bytes(), b"event 0\nevent 1\n".as_slice());
-    assert_same(&rt, ended.filled.as_slice(), [false].as_slice());
-    assert_prints(&rt, &mut disk, "events\n", UNPLUGGED_EVENTS, 1, &[true])
+    let slots = devices(&rt, &[Kind::Scripted])?;
+    assert_ends(
+        &rt,
+        &mut disk,
+        &script,
+        slots,
+        (Status::Sink, BEFORE, &[false]),
+    )?;
+    assert_prints(&rt, &mut disk, LATER_UNPLUGGED)?;
+    Ok(())
 }

@@ -4,16 +4,14 @@ ghost use Rattle.history_index.specs.Indexes.{AreCountable, Indexes};
 
 use crate::beside::{BESIDE, BESIDE_PRINTS};
 use crate::same::assert_same;
+use crate::sessions::recorded;
 use acts_model::Observer;
-use arn_base::{Bytes, Cpu, NoMemory, Pair, Record, Steps};
+use arn_base::{Cpu, NoMemory, Pair, Record, Steps};
 use history_index::{Index, are_countable};
-use log_disk::MemDisk;
-use log_store::Store;
 use query_engine::{Answer, Engine, QueryError, Target};
 use replayer::{ReplayError, replay};
 use rv64_isa::Instr;
 use rv64_model::Linkage;
-use session_trials::{Script, run_on};
 use std::alloc::Global;
 use std::marker::Brand;
 use std::process::Abort;
@@ -50,15 +48,6 @@ impl Observer for Counter {
         }
         Ok(())
     }
-}
-
-/// The log of the session in which process 2 spins beside two that hand bytes on.
-pub fn recorded(rt: &(impl Abort + AllocGlobal)) -> Result<Store, Fail> {
-    let alloc = rt.alloc();
-    let mut disk = MemDisk::new(alloc, Bytes::new(alloc));
-    let ended = run_on(alloc, &["log"], &Script::of(BESIDE.as_bytes()), &mut disk)?;
-    assert_same(rt, ended.sink.bytes(), BESIDE_PRINTS.as_bytes());
-    Ok(Store::open_log(alloc, &mut disk)?)
 }
 
 /// Where the three bytes of event 10 come from, asked of a new engine.
@@ -189,7 +178,7 @@ fn assert_counted(
 
 #[test]
 fn an_engine_replays_what_is_connected(rt: HostRuntime) -> Result<(), Fail> {
-    let store = recorded(&rt)?;
+    let store = recorded(&rt, BESIDE, BESIDE_PRINTS)?;
     let entries = store.entries();
     assert!(rt; are_countable(entries));
     let index = Index::build(rt.alloc(), entries)?;

@@ -2,8 +2,10 @@
 ghost use Rattle.std.specs.Prelude.{◌≡◌, ◌<◌, ◌++◌};
 ghost use Rattle.history_index.specs.Indexes.{AreCountable, Indexes};
 
-use crate::engines::{PAIRS, recorded};
+use crate::beside::{BESIDE, BESIDE_PRINTS};
+use crate::engines::PAIRS;
 use crate::same::assert_same;
+use crate::sessions::recorded;
 use arn_base::{Pair, Record, Steps};
 use history_index::{Index, are_countable};
 use query_engine::{Answer, Engine, QueryError, Target, seen_stays};
@@ -194,7 +196,7 @@ fn assert_reached(
 /// A group that was followed isn't replayed again, as far as there is room.
 #[test]
 fn an_engine_asks_no_group_again(rt: HostRuntime) -> Result<(), Fail> {
-    let store = recorded(&rt)?;
+    let store = recorded(&rt, BESIDE, BESIDE_PRINTS)?;
     let entries = store.entries();
     assert!(rt; are_countable(entries));
     let index = Index::build(rt.alloc(), entries)?;
@@ -207,7 +209,7 @@ fn an_engine_asks_no_group_again(rt: HostRuntime) -> Result<(), Fail> {
 /// The last record is a slice of group 2, so no other group is replayed once it has come.
 #[test]
 fn an_engine_goes_on_over_more_records(rt: HostRuntime) -> Result<(), Fail> {
-    let store = recorded(&rt)?;
+    let store = recorded(&rt, BESIDE, BESIDE_PRINTS)?;
     let entries = store.entries();
     let (before, more) = entries.split_at(entries.len().saturating_sub(1));
     assert!(rt; are_countable(before));

@@ -4,20 +4,16 @@
 #[cfg(test)]
 mod beside;
 #[cfg(test)]
-mod changed;
-#[cfg(test)]
-mod choices;
-#[cfg(test)]
 mod devices;
 #[cfg(test)]
 mod engines;
 #[cfg(test)]
-mod kept;
+mod given;
 #[cfg(test)]
-mod printing;
+mod kept;
 #[cfg(test)]
 mod same;
 #[cfg(test)]
-mod segments;
+mod scripts;
 #[cfg(test)]
-mod signals;
+mod sessions;

@@ -1,11 +1,8 @@
 // Whose bytes a read is recorded to have been given: a run for each event's bytes in a row.
 use super::*;
 use crate::same::assert_same;
-use arn_base::{Bytes, Extra, Origin, Record};
-use arn_session::Status;
-use log_disk::MemDisk;
-use log_store::Store;
-use session_trials::{Script, run_on};
+use crate::sessions::recorded;
+use arn_base::{Extra, Origin, Record};
 use std::process::Abort;
 use std::test::Fail;
 
@@ -153,12 +150,7 @@ fn assert_given(rt: &impl Abort, records: &[Record]) {
 
 #[test]
 fn a_read_has_an_origin_for_each_run(rt: HostRuntime) -> Result<(), Fail> {
-    let alloc = rt.alloc();
-    let mut disk = MemDisk::new(alloc, Bytes::new(alloc));
-    let ended = run_on(alloc, &["log"], &Script::of(READS.as_bytes()), &mut disk)?;
-    assert_same(&rt, ended.status, Status::Done);
-    assert_same(&rt, ended.sink.bytes(), READS_PRINTS.as_bytes());
-    let store = Store::open_log(alloc, &mut disk)?;
+    let store = recorded(&rt, READS, READS_PRINTS)?;
     assert_given(&rt, store.entries());
     Ok(())
 }
