@@ -1,12 +1,6 @@
-//! What sessions do with their words, their sources and sinks, and their logs.
+//! What sessions do with their words, their sources and sinks, and their disks.
 #![tactic(auto)]
 
-#[cfg(test)]
-mod full;
-#[cfg(test)]
-mod legs;
-#[cfg(test)]
-mod logs;
 #[cfg(test)]
 mod same;
 #[cfg(test)]
@@ -14,4 +8,4 @@ mod statuses;
 #[cfg(test)]
 mod stops;
 #[cfg(test)]
-mod tests;
+mod streams;

@@ -1,20 +1,41 @@
 // Disks that fail at each call of a session in turn, and then at each call of the session that follows.
-use crate::logs::{
-    ASKED_PRINTS, TYPED_PRINTS, answer, assert_ends, count_first, disk_of, failing_disk,
-    first_lines, log_of,
-};
 use crate::same::assert_same;
-use crate::tests::TYPED;
-use arn_base::NoMemory;
+use crate::streams::TYPED;
+use arn_base::{Bytes, NoMemory, Numbers, Record};
 use arn_session::Status;
-use log_disk::FuseDisk;
-use log_store::Store;
+use log_disk::{FuseDisk, MemDisk};
+use log_store::{OpenError, Store};
+use session_trials::{Ended, Script, run_on};
 use std::alloc::Global;
 use std::process::Abort;
 use std::test::Fail;
 
-/// What the bytes become that a stop may change: what is read there, or one of these.
-const FILLS: [Option<u8>; 4] = [None, Some(0), Some(1), Some(0xff)];
+/// A stop: what the bytes become that it may change, which is what is read there or one byte, and
+/// whether it leaves the shortest log that it may leave.
+type Stop = (Option<u8>, bool);
+
+const STOPS: [Stop; 8] = [
+    (None, false),
+    (None, true),
+    (Some(0), false),
+    (Some(0), true),
+    (Some(1), false),
+    (Some(1), true),
+    (Some(0xff), false),
+    (Some(0xff), true),
+];
+
+/// What is printed for `TYPED`. The first three commits print a line each, and the fourth two.
+const TYPED_PRINTS: &str = "\
+    event 0\n\
+    event 1\n\
+    event 2\n\
+    out 4 1 616263\n\
+    ran 11 done\n\
+    pair 2 0 0\n\
+    pair 2 1 1\n\
+    pair 2 2 2\n\
+    back pairs 3 instructions 11 groups 1\n";
 
 /// A client sends what was typed to a server, which writes it to a file and to the console.
 const SERVED: &str = "\
@@ -56,163 +77,287 @@ const SERVED_PRINTS: &str = "\
     pair 2 2 2\n\
     back pairs 3 instructions 46 groups 1 2\n";
 
-/// How many records the first so many commits have, of which the first three have one each and the
-/// fourth has all the others.
+/// Sessions of four commits, and what is printed for each.
+const SESSIONS: &[(&str, &str)] = &[(TYPED, TYPED_PRINTS), (SERVED, SERVED_PRINTS)];
+
+/// The first three commits have one record each, and the fourth has all the others.
 fn count_in(commits: usize, all: usize) -> usize {
     if commits < 4 { commits } else { all }
 }
 
-/// Each log that a crash of this disk can leave has so many records, the first ones of the whole.
-fn assert_crashes_stay(
-    rt: &(impl Abort + AllocGlobal),
-    disk: &FuseDisk,
-    whole: &Store,
-    records: usize,
-) -> Result<(), Fail> {
-    for fill in FILLS {
-        for short in [false, true] {
-            let left = disk.crash_with(rt.alloc(), fill, short)?;
-            let found = count_first(&log_of(rt.alloc(), left.as_slice())?, whole);
-            assert_same(rt, found, Some(records));
-        }
-    }
-    Ok(())
+/// A disk of these bytes of which one call fails.
+fn failing_disk(alloc: Global, bytes: &[u8], call: u32) -> Result<FuseDisk, NoMemory> {
+    let mut fails = Numbers::new(alloc);
+    fails.push(call)?;
+    Ok(FuseDisk::new(alloc, Bytes::from_slice(alloc, bytes)?, fails))
 }
 
-/// Whether a session over these bytes was answered where this call of the disk fails. If not, what a
-/// crash leaves then has as many records as before.
-fn opens(
-    rt: &(impl Abort + AllocGlobal),
-    left: &[u8],
-    whole: &Store,
-    records: usize,
-    call: u32,
-) -> Result<bool, Fail> {
-    let mut disk = failing_disk(rt.alloc(), left, call)?;
-    let ended = answer(rt.alloc(), &mut disk, "verify\n")?;
-    if ended.status == Status::Done {
-        assert_same(rt, ended.sink.bytes(), b"verify run\n".as_slice());
-        return Ok(true);
-    }
+/// No session makes so many calls of its disk.
+const NO_CALL: u32 = u32::MAX;
+
+/// How a session ended, and its disk.
+#[derive(Drop)]
+struct Tried {
+    ended: Ended,
+    disk: FuseDisk,
+}
+
+/// Runs a session over these bytes, on a disk of which this call fails.
+fn tried(alloc: Global, bytes: &[u8], text: &str, call: u32) -> Result<Tried, NoMemory> {
+    let mut disk = failing_disk(alloc, bytes, call)?;
+    let ended = run_on(alloc, &["log"], &Script::of(text.as_bytes()), &mut disk)?;
+    Ok(Tried { ended, disk })
+}
+
+/// A session ended so, and printed this.
+fn assert_ended(rt: &impl Abort, call: u32, ended: &Ended, status: Status, printed: &str) {
     assert_same(
         rt,
         (call, ended.status, ended.sink.bytes()),
-        (call, Status::Disk, b"".as_slice()),
+        (call, status, printed.as_bytes()),
     );
-    assert_crashes_stay(rt, &disk, whole, records)?;
-    Ok(false)
 }
 
-/// The history stays, whichever call of the next session's opening fails.
+/// The log that a session leaves where no call fails.
+fn recorded(alloc: Global, text: &str) -> Result<Store, OpenError> {
+    let mut disk = MemDisk::new(alloc, Bytes::new(alloc));
+    let _ended = run_on(alloc, &["log"], &Script::of(text.as_bytes()), &mut disk)?;
+    Store::open_log(alloc, &mut disk)
+}
+
+/// How many records there are, where they are the first ones of these.
+fn count_first(found: &[Record], whole: &[Record]) -> Option<usize> {
+    if whole.get(..found.len())? == found {
+        Some(found.len())
+    } else {
+        None
+    }
+}
+
+/// How many records the log of these bytes has, where they are the first ones of these.
+fn count(alloc: Global, bytes: &[u8], whole: &[Record]) -> Result<Option<usize>, OpenError> {
+    let mut disk = MemDisk::new(alloc, Bytes::from_slice(alloc, bytes)?);
+    let log = Store::open_log(alloc, &mut disk)?;
+    Ok(count_first(log.entries(), whole))
+}
+
+/// The bytes that a stop leaves of a disk.
+fn left(alloc: Global, disk: &FuseDisk, stop: Stop) -> Result<Bytes, NoMemory> {
+    let (fill, short) = stop;
+    disk.crash_with(alloc, fill, short)
+}
+
+/// Each stop leaves so many records on this disk, the first ones of these.
 fn assert_stays(
     rt: &(impl Abort + AllocGlobal),
-    left: &[u8],
-    whole: &Store,
-    records: usize,
-) -> Result<(), Fail> {
-    for call in 0..1_000 {
-        if opens(rt, left, whole, records, call)? {
-            return Ok(());
-        }
-    }
-    panic!(rt; "the opening has no end")
-}
-
-/// How many records a log has that a crash left behind so many printed lines: those of what these
-/// answer, and perhaps those of one commit more.
-fn count_left(
-    rt: &(impl Abort + AllocGlobal),
-    left: &[u8],
-    whole: &Store,
-    lines: usize,
-) -> Result<usize, Fail> {
-    let all = whole.entries().len();
-    let found = count_first(&log_of(rt.alloc(), left)?, whole).unwrap_or(usize::MAX);
-    let may_be = [count_in(lines, all), count_in(lines.saturating_add(1), all)];
-    assert!(rt; may_be.contains(&found), "{found} behind {lines} lines");
-    Ok(found)
-}
-
-/// Each log that a crash of this disk can leave is a run's, with what was answered in so many lines, and
-/// stays so, and a session goes on with it.
-fn assert_crashes_hold(
-    rt: &(impl Abort + AllocGlobal),
     disk: &FuseDisk,
-    whole: &Store,
-    lines: usize,
-) -> Result<(), Fail> {
-    for fill in FILLS {
-        for short in [false, true] {
-            let left = disk.crash_with(rt.alloc(), fill, short)?;
-            let records = count_left(rt, left.as_slice(), whole, lines)?;
-            let mut next = disk_of(rt.alloc(), left.as_slice())?;
-            assert_ends(rt, &mut next, "verify\n", Status::Done, "verify run\n")?;
-            let ended = answer(rt.alloc(), &mut next, "run 0\n")?;
-            assert_same(rt, ended.status, Status::Done);
-            assert_stays(rt, left.as_slice(), whole, records)?;
-        }
+    whole: &[Record],
+    records: Option<usize>,
+) -> Result<(), OpenError> {
+    for stop in STOPS {
+        let bytes = left(rt.alloc(), disk, stop)?;
+        let found = count(rt.alloc(), bytes.as_slice(), whole)?;
+        assert_same(rt, (stop, found), (stop, records));
     }
     Ok(())
 }
 
-/// How many calls of the disk the opening and three commits take.
-const LEAST_CALLS: u32 = 16;
-
-/// What of this is printed before this call of the disk: the opening takes four calls, and so does each
-/// commit, of which the first three print a line each.
-fn printed_before(alloc: Global, prints: &str, call: u32) -> Result<String, NoMemory> {
-    let commits = (call / 4).saturating_sub(1);
-    first_lines(alloc, prints, commits as usize)
-}
-
-/// Whether a session was answered to its end where this call of the disk fails.
-fn ends(
+/// Whether a session over these bytes is answered where this call of the disk fails. Each stop leaves
+/// as many records then as there were.
+fn opens(
     rt: &(impl Abort + AllocGlobal),
-    text: &str,
-    prints: &str,
-    whole: &Store,
+    bytes: &[u8],
+    whole: &[Record],
+    records: Option<usize>,
     call: u32,
-) -> Result<bool, Fail> {
-    let mut disk = failing_disk(rt.alloc(), b"", call)?;
-    let ended = answer(rt.alloc(), &mut disk, text)?;
-    let printed = ended.sink.bytes();
-    if ended.status == Status::Done {
-        assert_same(rt, printed, prints.as_bytes());
-        return Ok(true);
-    }
-    let wanted = printed_before(rt.alloc(), prints, call)?;
-    assert_same(
-        rt,
-        (call, ended.status, ended.status.code(), printed),
-        (call, Status::Disk, 3, wanted.as_bytes()),
-    );
-    let lines = printed.iter().filter(|byte| **byte == b'\n').count();
-    assert_crashes_hold(rt, &disk, whole, lines)?;
-    Ok(false)
+) -> Result<bool, OpenError> {
+    let next = tried(rt.alloc(), bytes, "verify\n", call)?;
+    let is_open = next.ended.status == Status::Done;
+    let (status, printed) = if is_open {
+        (Status::Done, "verify run\n")
+    } else {
+        (Status::Disk, "")
+    };
+    assert_ended(rt, call, &next.ended, status, printed);
+    assert_stays(rt, &next.disk, whole, records)?;
+    Ok(is_open)
 }
 
-/// Each call of the disk fails in turn, the machine stops, and then each call of the next opening fails.
-fn assert_stops(rt: &(impl Abort + AllocGlobal), text: &str, prints: &str) -> Result<(), Fail> {
-    let mut disk = disk_of(rt.alloc(), b"")?;
-    assert_ends(rt, &mut disk, text, Status::Done, prints)?;
-    let whole = log_of(rt.alloc(), disk.bytes())?;
-    for call in 0..1_000 {
-        if ends(rt, text, prints, &whole, call)? {
-            assert!(rt; call >= LEAST_CALLS, "a disk that failed was asked again");
-            return Ok(());
+/// The records stay, whichever call of the next session's opening fails.
+fn assert_opens(
+    rt: &(impl Abort + AllocGlobal),
+    bytes: &[u8],
+    whole: &[Record],
+    records: Option<usize>,
+) -> Result<(), OpenError> {
+    let mut is_open = false;
+    for call in 0..MOST_CALLS {
+        if !is_open {
+            is_open = opens(rt, bytes, whole, records, call)?;
         }
     }
-    panic!(rt; "the disk has no end")
+    assert_same(rt, is_open, true);
+    Ok(())
+}
+
+/// The log of these bytes, which a stop left behind so many printed lines, has the records of what
+/// these answer, and perhaps those of one commit more. It stays so, and a session goes on with it.
+fn assert_holds(
+    rt: &(impl Abort + AllocGlobal),
+    bytes: &[u8],
+    whole: &[Record],
+    lines: usize,
+) -> Result<(), OpenError> {
+    let found = count(rt.alloc(), bytes, whole)?;
+    let more = Some(count_in(lines.saturating_add(1), whole.len()));
+    if found != more {
+        assert_same(rt, found, Some(count_in(lines, whole.len())));
+    }
+    let next = tried(rt.alloc(), bytes, "run 0\n", NO_CALL)?;
+    assert_same(rt, next.ended.status, Status::Done);
+    assert_opens(rt, bytes, whole, found)
+}
+
+/// Each log holds that a stop leaves on this disk behind so many printed lines.
+fn assert_all_hold(
+    rt: &(impl Abort + AllocGlobal),
+    disk: &FuseDisk,
+    whole: &[Record],
+    lines: usize,
+) -> Result<(), OpenError> {
+    for stop in STOPS {
+        let bytes = left(rt.alloc(), disk, stop)?;
+        assert_holds(rt, bytes.as_slice(), whole, lines)?;
+    }
+    Ok(())
+}
+
+/// The first lines of a text, each with its LF.
+fn first_lines(alloc: Global, text: &str, count: usize) -> Result<String, NoMemory> {
+    let mut first = String::new(alloc);
+    for line in text.lines().take(count) {
+        first.push_str(line)?;
+        first.push('\n')?;
+    }
+    Ok(first)
+}
+
+/// Whether a session is answered to its end where this call of the disk fails. The opening takes four
+/// calls, and so does each commit, of which the first three print a line each.
+fn ends(
+    rt: &(impl Abort + AllocGlobal),
+    session: (&str, &str),
+    whole: &[Record],
+    call: u32,
+) -> Result<bool, OpenError> {
+    let (text, prints) = session;
+    let first = tried(rt.alloc(), b"", text, call)?;
+    let is_done = first.ended.status == Status::Done;
+    let (status, lines) = if is_done {
+        (Status::Done, usize::MAX)
+    } else {
+        (Status::Disk, (call / 4).saturating_sub(1) as usize)
+    };
+    let printed = first_lines(rt.alloc(), prints, lines)?;
+    assert_ended(rt, call, &first.ended, status, printed.as_str());
+    assert_all_hold(rt, &first.disk, whole, lines)?;
+    Ok(is_done)
+}
+
+/// The opening and three commits take so many calls of the disk at least, and no session here takes
+/// as many as the other number.
+const LEAST_CALLS: u32 = 16;
+
+const MOST_CALLS: u32 = 1_000;
+
+/// Each call of the disk fails in turn, the machine stops, and then each call of the next opening fails.
+/// A disk that failed isn't asked again.
+fn assert_stops(rt: &(impl Abort + AllocGlobal), session: (&str, &str)) -> Result<(), OpenError> {
+    let (text, _) = session;
+    let whole = recorded(rt.alloc(), text)?;
+    let mut calls = MOST_CALLS;
+    for call in 0..MOST_CALLS {
+        if calls == MOST_CALLS && ends(rt, session, whole.entries(), call)? {
+            calls = call;
+        }
+    }
+    assert_same(rt, (LEAST_CALLS..MOST_CALLS).contains(&calls), true);
+    Ok(())
 }
 
 #[test]
 fn a_failing_disk_keeps_what_was_printed(rt: HostRuntime) -> Result<(), Fail> {
-    let mut prints = String::from_str(rt.alloc(), TYPED_PRINTS)?;
-    prints.push_str(ASKED_PRINTS)?;
-    assert_stops(&rt, TYPED, prints.as_str())
+    for session in SESSIONS {
+        assert_stops(&rt, *session)?;
+    }
+    Ok(())
 }
 
+/// Writes 65,536 zeros to the console five times, and exits.
+const WRITES: &str = "\
+    asm p\n\
+    li s0, 5\n\
+    again: ; li a7, 12; li a0, 1; lui a1, 32; lui a2, 16; ecall\n\
+    addi s0, s0, -1; bne s0, zero, again\n\
+    li a7, 1; li a0, 0; ecall\n\
+    end\n\
+    boot p\n\
+    run 100\n";
+
+const WRITTEN: usize = 65_536;
+
+/// What is printed for a write.
+fn push_write(text: &mut String, event: u32) -> Result<(), NoMemory> {
+    write!(text, "out {event} 1 ")?;
+    for _ in 0..WRITTEN {
+        text.push_str("00")?;
+    }
+    Ok(text.push('\n')?)
+}
+
+/// What is printed before, for the writes of these events, and behind them.
+fn writes(alloc: Global, before: &str, events: &[u32], behind: &str) -> Result<String, NoMemory> {
+    let mut text = String::from_str(alloc, before)?;
+    for event in events {
+        push_write(&mut text, *event)?;
+    }
+    text.push_str(behind)?;
+    Ok(text)
+}
+
+/// The opening takes four calls of the disk, and so does each commit: the file, the boot, the leg of
+/// four writes and that of the fifth, which fails at its first call.
+const FIFTH_WRITE: u32 = 16;
+
+/// What a stop leaves where the second leg's commit fails: the first leg, which was printed.
+fn first_leg(rt: &(impl Abort + AllocGlobal)) -> Result<Bytes, NoMemory> {
+    let printed = writes(rt.alloc(), "event 0\nevent 1\n", &[2, 3, 4, 5], "")?;
+    let first = tried(rt.alloc(), b"", WRITES, FIFTH_WRITE)?;
+    assert_ended(
+        rt,
+        FIFTH_WRITE,
+        &first.ended,
+        Status::Disk,
+        printed.as_str(),
+    );
+    left(rt.alloc(), &first.disk, (Some(1), false))
+}
+
+/// The next session runs the second leg: 12 instructions, of which the seventh is the write.
+fn assert_second_leg(rt: &(impl Abort + AllocGlobal), bytes: &[u8]) -> Result<(), NoMemory> {
+    let printed = writes(rt.alloc(), "", &[6], "ran 12 done\n")?;
+    let next = tried(rt.alloc(), bytes, "run 100\n", NO_CALL)?;
+    assert_ended(rt, NO_CALL, &next.ended, Status::Done, printed.as_str());
+    Ok(())
+}
+
+/// The records of the first leg are a slice and a call for each write, behind the file and the boot.
 #[test]
-fn a_failing_disk_keeps_what_a_server_printed(rt: HostRuntime) -> Result<(), Fail> {
-    assert_stops(&rt, SERVED, SERVED_PRINTS)
+fn a_leg_is_kept_where_the_next_one_fails(rt: HostRuntime) -> Result<(), Fail> {
+    let bytes = first_leg(&rt)?;
+    let whole = recorded(rt.alloc(), WRITES)?;
+    let records = count(rt.alloc(), bytes.as_slice(), whole.entries())?;
+    assert_same(&rt, records, Some(10));
+    assert_second_leg(&rt, bytes.as_slice())?;
+    Ok(())
 }

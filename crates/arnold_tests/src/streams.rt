@@ -1,28 +1,12 @@
-use crate::logs::{STALLED, assert_ends, disk_of};
+// Sessions whose words, sources and sinks are refused or fail.
 use crate::same::assert_same;
-use arn_base::NoMemory;
+use arn_base::{Bytes, Disk, NoMemory};
 use arn_session::Status;
 use log_disk::MemDisk;
-use session_trials::{Ended, Script, run, run_on};
+use session_trials::{Script, run, run_on};
 use std::alloc::Global;
-use std::fmt::Debug;
 use std::process::Abort;
 use std::test::Fail;
-
-/// A session at a row of a table, or at a call that fails, ended so and printed this.
-pub fn assert_ended<A: PartialEq + Debug + Copy>(
-    rt: &impl Abort,
-    at: A,
-    ended: &Ended,
-    status: Status,
-    printed: &[u8],
-) {
-    assert_same(
-        rt,
-        (at, ended.status, ended.sink.bytes()),
-        (at, status, printed),
-    );
-}
 
 /// A line or a block, without its last LF, and what is printed for it.
 type Exchange = (&'static str, &'static str);
@@ -125,130 +109,115 @@ fn printed_within(alloc: Global, exchanges: &[Exchange], len: usize) -> Result<S
     Ok(printed)
 }
 
+/// A session with these words over the log of a disk ends so, and prints this.
+fn assert_ends<D: Disk>(
+    rt: &(impl Abort + AllocGlobal),
+    disk: &mut D,
+    words: &[&str],
+    script: &Script,
+    wanted: (Status, &str),
+) -> Result<(), NoMemory> {
+    let ended = run_on(rt.alloc(), words, script, disk)?;
+    let (status, printed) = wanted;
+    assert_same(
+        rt,
+        (script.source_fails, ended.status, ended.sink.bytes()),
+        (script.source_fails, status, printed.as_bytes()),
+    );
+    Ok(())
+}
+
+/// A session over a fresh log ends so, and prints this.
+fn assert_fresh(
+    rt: &(impl Abort + AllocGlobal),
+    script: &Script,
+    wanted: (Status, &str),
+) -> Result<(), NoMemory> {
+    let mut disk = MemDisk::new(rt.alloc(), Bytes::new(rt.alloc()));
+    assert_ends(rt, &mut disk, &["log"], script, wanted)
+}
+
+/// How many bytes a source gives at once.
+const PIECES: [usize; 5] = [1, 2, 3, 7, 4_096];
+
 /// This is printed for the text, whatever pieces the source gives it in.
-fn assert_prints(rt: &(impl Abort + AllocGlobal), text: &str, want: &str) -> Result<(), Fail> {
-    for piece in [1, 2, 3, 7, 4_096] {
+fn assert_prints(
+    rt: &(impl Abort + AllocGlobal),
+    text: &str,
+    printed: &str,
+) -> Result<(), NoMemory> {
+    for piece in PIECES {
         let script = Script {
             piece,
             ..Script::of(text.as_bytes())
         };
-        let ended = run(rt.alloc(), &["log"], &script)?;
-        assert_ended(rt, (text, piece), &ended, Status::Done, want.as_bytes());
+        assert_fresh(rt, &script, (Status::Done, printed))?;
     }
     Ok(())
 }
 
 #[test]
 fn prints_the_answer_to_each_line(rt: HostRuntime) -> Result<(), Fail> {
-    let alloc = rt.alloc();
-    let text = text_of(alloc, EXCHANGES)?;
-    let printed = printed_within(alloc, EXCHANGES, text.len())?;
-    for (text, want) in [
-        ("", ""),
-        (text.as_str(), printed.as_str()),
-        (
-            TYPED,
-            "event 0\nevent 1\nevent 2\nout 4 1 616263\nran 11 done\n\
-            pair 2 0 0\npair 2 1 1\npair 2 2 2\nback pairs 3 instructions 11 groups 1\n",
-        ),
-        (
-            STALLED,
-            "event 0\nevent 1\nran 4 stalled\nevent 2\nout 4 1 616263\nran 7 done\n",
-        ),
-    ] {
-        assert_prints(&rt, text, want)?;
-    }
+    let text = text_of(rt.alloc(), EXCHANGES)?;
+    let printed = printed_within(rt.alloc(), EXCHANGES, text.len())?;
+    assert_prints(&rt, text.as_str(), printed.as_str())?;
     Ok(())
 }
 
-/// A text, a line of so many bytes that says nothing, and another text.
-fn with_long_line(
-    alloc: Global,
-    before: &str,
-    len: usize,
-    after: &str,
-) -> Result<String, NoMemory> {
-    let mut text = String::from_str(alloc, before)?;
-    for _ in 0..len {
-        text.push('x')?;
-    }
-    text.push_str(after)?;
-    Ok(text)
-}
+/// Words that aren't accepted.
+const REFUSED: [&[&str]; 3] = [&[], &["--log"], &["log", "log"]];
 
-#[test]
-fn tells_lines_that_are_too_long(rt: HostRuntime) -> Result<(), Fail> {
-    let alloc = rt.alloc();
-    for (before, len, after, want) in [
-        ("", 1_048_576, "\n", "no line\n"),
-        ("", 1_048_577, "\n", "no long\n"),
-        ("asm p\necall\n", 1_048_577, "\nend\n", "no asm 2\n"),
-    ] {
-        let text = with_long_line(alloc, before, len, after)?;
-        let ended = run(alloc, &["log"], &Script::of(text.as_bytes()))?;
-        assert_ended(&rt, len, &ended, Status::Done, want.as_bytes());
-    }
-    Ok(())
-}
-
-/// The last line needs no LF, be it the `end` of a block.
-#[test]
-fn answers_an_unfinished_line(rt: HostRuntime) -> Result<(), Fail> {
-    for (text, want) in [
-        ("hello", "no line\n"),
-        ("\nfile p 00", "event 0\n"),
-        ("asm p\necall\nend", "event 0\n"),
-        ("asm p\necall", "no asm 2\n"),
-    ] {
-        let ended = run(rt.alloc(), &["log"], &Script::of(text.as_bytes()))?;
-        assert_ended(&rt, text, &ended, Status::Done, want.as_bytes());
-    }
-    Ok(())
-}
-
-#[test]
-fn refuses_other_words(rt: HostRuntime) -> Result<(), Fail> {
+/// Neither the source nor the sink is asked for anything, and the disk is left alone.
+fn assert_refused(
+    rt: &(impl Abort + AllocGlobal),
+    disk: &mut MemDisk,
+    words: &[&str],
+) -> Result<(), NoMemory> {
     let script = Script {
         source_fails: &[0],
         sink_fails: &[0],
         ..Script::of(TYPED.as_bytes())
     };
-    for words in [[].as_slice(), &["--log"], &["log", "log"]] {
-        let ended = run(rt.alloc(), words, &script)?;
-        assert_ended(&rt, words, &ended, Status::Usage, &[]);
+    assert_ends(rt, disk, words, &script, (Status::Usage, ""))?;
+    assert_same(rt, (words, disk.bytes()), (words, b"junk".as_slice()));
+    Ok(())
+}
+
+#[test]
+fn refuses_other_words(rt: HostRuntime) -> Result<(), Fail> {
+    let junk = Bytes::from_slice(rt.alloc(), b"junk")?;
+    let mut disk = MemDisk::new(rt.alloc(), junk);
+    for words in REFUSED {
+        assert_refused(&rt, &mut disk, words)?;
     }
     Ok(())
 }
 
-/// Whether the text was answered to its end where this call of the source fails. What was printed is
-/// the answers to the lines that the calls before gave.
-fn ends_at_source(rt: &(impl Abort + AllocGlobal), text: &str, call: u32) -> Result<bool, Fail> {
+/// Where this call of the source fails, the lines are answered that the calls before gave. The last
+/// of these calls comes behind the end of the text, and isn't made.
+fn assert_given(rt: &(impl Abort + AllocGlobal), text: &str, call: usize) -> Result<(), NoMemory> {
+    let given = call * PIECE;
+    let status = if given > text.len() {
+        Status::Done
+    } else {
+        Status::Source
+    };
+    let printed = printed_within(rt.alloc(), EXCHANGES, given)?;
     let script = Script {
         piece: PIECE,
-        source_fails: &[call],
+        source_fails: &[call as u32],
         ..Script::of(text.as_bytes())
     };
-    let ended = run(rt.alloc(), &["log"], &script)?;
-    let given = call as usize * PIECE;
-    let printed = printed_within(rt.alloc(), EXCHANGES, given)?;
-    assert_same(rt, (call, ended.sink.bytes()), (call, printed.as_bytes()));
-    if ended.status == Status::Done {
-        assert!(rt; given > text.len());
-        return Ok(true);
-    }
-    assert_same(rt, (call, ended.status), (call, Status::Source));
-    Ok(false)
+    assert_fresh(rt, &script, (status, printed.as_str()))
 }
 
 #[test]
 fn answers_what_a_failing_source_gave(rt: HostRuntime) -> Result<(), Fail> {
     let text = text_of(rt.alloc(), EXCHANGES)?;
-    for call in 0..1_000 {
-        if ends_at_source(&rt, text.as_str(), call)? {
-            return Ok(());
-        }
+    for call in 0..=text.len() / PIECE + 1 {
+        assert_given(&rt, text.as_str(), call)?;
     }
-    panic!(rt; "the text has no end")
+    Ok(())
 }
 
 /// The source gives ten bytes at once: a line with its LF, and then parts of a block.
@@ -260,8 +229,7 @@ fn a_source_fails_within_a_block(rt: HostRuntime) -> Result<(), Fail> {
             source_fails: &[call],
             ..Script::of(b"file q 00\nasm p\nli a0, 0\nend")
         };
-        let ended = run(rt.alloc(), &["log"], &script)?;
-        assert_ended(&rt, call, &ended, Status::Source, b"event 0\n");
+        assert_fresh(&rt, &script, (Status::Source, "event 0\n"))?;
     }
     Ok(())
 }
@@ -271,64 +239,57 @@ fn a_source_fails_within_a_block(rt: HostRuntime) -> Result<(), Fail> {
 fn ends_at_sink(
     rt: &(impl Abort + AllocGlobal),
     text: &str,
-    printed: &str,
+    printed: &[u8],
     call: u32,
-) -> Result<bool, Fail> {
+) -> Result<bool, NoMemory> {
     let script = Script {
         sink_fails: &[call],
         ..Script::of(text.as_bytes())
     };
     let ended = run(rt.alloc(), &["log"], &script)?;
     let held = ended.sink.bytes();
-    if ended.status == Status::Done {
-        assert_same(rt, held, printed.as_bytes());
-        return Ok(true);
-    }
-    assert_same(rt, (call, ended.status), (call, Status::Sink));
-    assert!(rt; held.len() >= call as usize, "at {call}");
-    assert!(rt; printed.as_bytes().starts_with(held), "at {call}");
-    Ok(false)
+    let is_done = held == printed;
+    let status = if is_done { Status::Done } else { Status::Sink };
+    assert_same(
+        rt,
+        (
+            call,
+            ended.status,
+            held.len() >= call as usize,
+            printed.starts_with(held),
+        ),
+        (call, status, true, true),
+    );
+    Ok(is_done)
 }
 
+/// No session here asks its sink so often.
+const MOST_CALLS: u32 = 1_000;
+
+/// A sink that failed isn't asked again.
 #[test]
 fn a_failing_sink_holds_what_came_before(rt: HostRuntime) -> Result<(), Fail> {
     let text = text_of(rt.alloc(), EXCHANGES)?;
     let printed = printed_within(rt.alloc(), EXCHANGES, text.len())?;
-    for call in 0..1_000 {
-        if ends_at_sink(&rt, text.as_str(), printed.as_str(), call)? {
-            assert!(rt; call > 0, "a sink that failed was asked again");
-            return Ok(());
+    let mut calls = MOST_CALLS;
+    for call in 0..MOST_CALLS {
+        if calls == MOST_CALLS && ends_at_sink(&rt, text.as_str(), printed.as_bytes(), call)? {
+            calls = call;
         }
     }
-    panic!(rt; "the answers have no end")
-}
-
-/// A session over the log of a disk ends so, and prints nothing.
-fn assert_silent(
-    rt: &(impl Abort + AllocGlobal),
-    disk: &mut MemDisk,
-    script: &Script,
-    status: Status,
-    code: u8,
-) -> Result<(), Fail> {
-    let ended = run_on(rt.alloc(), &["log"], script, disk)?;
-    assert_same(
-        rt,
-        (ended.status, ended.status.code(), ended.sink.bytes()),
-        (status, code, b"".as_slice()),
-    );
+    assert_same(&rt, (1..MOST_CALLS).contains(&calls), true);
     Ok(())
 }
 
 /// A source that fails at its first call leaves a fresh log.
 #[test]
 fn a_source_that_fails_at_once_leaves_a_fresh_log(rt: HostRuntime) -> Result<(), Fail> {
-    let mut disk = disk_of(rt.alloc(), b"")?;
+    let mut disk = MemDisk::new(rt.alloc(), Bytes::new(rt.alloc()));
     let script = Script {
         source_fails: &[0],
         ..Script::of(TYPED.as_bytes())
     };
-    assert_silent(&rt, &mut disk, &script, Status::Source, 6)?;
+    assert_ends(&rt, &mut disk, &["log"], &script, (Status::Source, ""))?;
     assert_same(&rt, disk.bytes(), b"ARNLOG01\0".as_slice());
     Ok(())
 }
@@ -346,11 +307,19 @@ const LOST_PRINTS: &str = "\
 
 #[test]
 fn a_sink_that_fails_at_once_leaves_the_first_record(rt: HostRuntime) -> Result<(), Fail> {
-    let mut disk = disk_of(rt.alloc(), b"")?;
+    let mut disk = MemDisk::new(rt.alloc(), Bytes::new(rt.alloc()));
     let script = Script {
         sink_fails: &[0],
         ..Script::of(TYPED.as_bytes())
     };
-    assert_silent(&rt, &mut disk, &script, Status::Sink, 7)?;
-    assert_ends(&rt, &mut disk, LOST, Status::Done, LOST_PRINTS)
+    assert_ends(&rt, &mut disk, &["log"], &script, (Status::Sink, ""))?;
+    let asked = Script::of(LOST.as_bytes());
+    assert_ends(
+        &rt,
+        &mut disk,
+        &["log"],
+        &asked,
+        (Status::Done, LOST_PRINTS),
+    )?;
+    Ok(())
 }
