@@ -12,7 +12,7 @@ use arn_base::{
     Bytes, Choice, Chooser, Device, Disk, NoMemory, Numbers, SliceSource, Steps, VecSink,
 };
 use arn_session::{Status, arnold};
-use guest_devices::{RoundChooser, ScriptChooser, SeededChooser};
+use guest_devices::{RoundChooser, ScriptChooser};
 use log_disk::MemDisk;
 use std::alloc::Global;
 use std::marker::Brand;
@@ -26,8 +26,6 @@ const SLICE: u32 = 100;
 pub enum Schedule {
     /// One after the other, for up to a hundred instructions.
     Round,
-    /// By chance, from a seed.
-    Seeded(u64),
     /// By these choices, and from then on the first process for one instruction at a time.
     Script(&'static [Choice]),
 }
@@ -127,7 +125,6 @@ fn run_over<D: Disk, L: Ledger>(
     let mut sink = VecSink::new(alloc, numbers(alloc, script.sink_fails)?);
     let mut chooser: Box<dyn Chooser> = match script.schedule {
         Schedule::Round => Box::new(alloc, RoundChooser::new(SLICE))?,
-        Schedule::Seeded(seed) => Box::new(alloc, SeededChooser::new(seed))?,
         Schedule::Script(choices) => {
             Box::new(alloc, ScriptChooser::new(Vec::from_slice(alloc, choices)?))?
         }
