@@ -97,16 +97,16 @@ const NO_CALL: u32 = u32::MAX;
 
 /// How a session ended, and its disk.
 #[derive(Drop)]
-struct Tried {
+struct Trial {
     ended: Ended,
     disk: FuseDisk,
 }
 
 /// Runs a session over these bytes, on a disk of which this call fails.
-fn tried(alloc: Global, bytes: &[u8], text: &str, call: u32) -> Result<Tried, NoMemory> {
+fn tried(alloc: Global, bytes: &[u8], text: &str, call: u32) -> Result<Trial, NoMemory> {
     let mut disk = failing_disk(alloc, bytes, call)?;
     let ended = run_on(alloc, &["log"], &Script::of(text.as_bytes()), &mut disk)?;
-    Ok(Tried { ended, disk })
+    Ok(Trial { ended, disk })
 }
 
 /// A session ended so, and printed this.

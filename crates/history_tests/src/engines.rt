@@ -1,6 +1,8 @@
-// An engine over the records of a session: which groups a query replays, and how much of them.
-ghost use Rattle.std.specs.Prelude.{◌≡◌, ◌<◌};
+// An engine over the records of a session: which groups a query replays, how much of them, and which it
+// replays again, over the same records and over more of them.
+ghost use Rattle.std.specs.Prelude.{◌≡◌, ◌<◌, ◌++◌};
 ghost use Rattle.history_index.specs.Indexes.{AreCountable, Indexes};
+ghost use Rattle.query_engine.specs.Engines.{HasSeen};
 
 use crate::beside::{BESIDE, BESIDE_PRINTS};
 use crate::same::assert_same;
@@ -8,7 +10,7 @@ use crate::sessions::recorded;
 use acts_model::Observer;
 use arn_base::{Cpu, NoMemory, Pair, Record, Steps};
 use history_index::{Index, are_countable};
-use query_engine::{Answer, Engine, QueryError, Target};
+use query_engine::{Answer, Engine, QueryError, Target, seen_stays};
 use replayer::{ReplayError, replay};
 use rv64_isa::Instr;
 use rv64_model::Linkage;
@@ -17,6 +19,310 @@ use std::marker::Brand;
 use std::process::Abort;
 use std::sync::ledger::{Blank, Ledger};
 use std::test::Fail;
+
+/// What an engine is asked.
+#[derive(Clone, Copy)]
+enum Question {
+    /// Where the three bytes of event 10 came from.
+    Back(Linkage),
+    /// Where the three bytes of event 2 went, by copies.
+    Forth,
+}
+
+/// The three bytes that were typed.
+const TYPED: &[Pair] = &[
+    Pair {
+        event: 2,
+        at: 0,
+        byte: 0,
+    },
+    Pair {
+        event: 2,
+        at: 1,
+        byte: 1,
+    },
+    Pair {
+        event: 2,
+        at: 2,
+        byte: 2,
+    },
+];
+
+/// The three bytes that they became.
+const REACHED: &[Pair] = &[
+    Pair {
+        event: 10,
+        at: 0,
+        byte: 0,
+    },
+    Pair {
+        event: 10,
+        at: 1,
+        byte: 1,
+    },
+    Pair {
+        event: 10,
+        at: 2,
+        byte: 2,
+    },
+];
+
+/// A question, how many instructions the groups have that it is about, and which of them are replayed.
+#[derive(Clone, Copy)]
+struct Asked {
+    question: Question,
+    instructions: u64,
+    replayed: &'static [u32],
+}
+
+/// What an engine answers.
+fn answer<L: Ledger>(
+    engine: &mut Engine,
+    entries: &[Record],
+    index: &Index,
+    question: Question,
+    steps: &mut Steps<L>,
+) -> Result<Answer, QueryError>
+    requires countable { AreCountable entries.now }
+    requires indexed { Indexes index.now entries.now }
+    requires seen { HasSeen entries.now engine.old }
+    ensures seen { HasSeen entries.now engine.new }
+{
+    match question {
+        Question::Back(linkage) => {
+            let target = Target::Event {
+                event: 10,
+                from: 0,
+                len: 3,
+            };
+            engine.back(entries, index, linkage, &target, steps)
+        }
+        Question::Forth => engine.forth(entries, index, Linkage::Copy, 2, 0, 3, steps),
+    }
+}
+
+/// The pairs that answer.
+fn pairs(question: Question) -> &'static [Pair] {
+    match question {
+        Question::Back(_) => TYPED,
+        Question::Forth => REACHED,
+    }
+}
+
+/// An engine answers, and replays these groups for it.
+fn assert_answers<L: Ledger>(
+    rt: &impl Abort,
+    engine: &mut Engine,
+    entries: &[Record],
+    index: &Index,
+    asked: &Asked,
+    steps: &mut Steps<L>,
+) -> Result<(), QueryError>
+    requires countable { AreCountable entries.now }
+    requires indexed { Indexes index.now entries.now }
+    requires seen { HasSeen entries.now engine.old }
+    ensures seen { HasSeen entries.now engine.new }
+{
+    let found = answer(engine, entries, index, asked.question, steps)?;
+    assert_same(
+        rt,
+        (
+            found.replayed.as_slice(),
+            found.instructions,
+            found.pairs.as_slice(),
+        ),
+        (asked.replayed, asked.instructions, pairs(asked.question)),
+    );
+    Ok(())
+}
+
+/// How many groups an engine keeps, and what it is asked, one after the other.
+struct Trial {
+    keep: u32,
+    first: Asked,
+    second: Asked,
+    third: Asked,
+}
+
+/// The bytes that were handed on came through groups 1 and 3, and not through the one that spins.
+const NEW: Asked = Asked {
+    question: Question::Back(Linkage::Copy),
+    instructions: 32,
+    replayed: &[1, 3],
+};
+
+const BY_DATA: Asked = Asked {
+    question: Question::Back(Linkage::Data),
+    ..NEW
+};
+
+/// Behind `NEW`, forward, the engine replays the group that it hasn't followed, and group 3 to its end. Group 1
+/// does nothing behind event 10, so that what followed it up to there serves here too.
+const FORTH: Asked = Asked {
+    question: Question::Forth,
+    instructions: 1_000_000,
+    replayed: &[2, 3],
+};
+
+/// A group that was followed isn't replayed again, as far as there is room.
+const TRIALS: [Trial; 4] = [
+    Trial {
+        keep: 0,
+        first: NEW,
+        second: NEW,
+        third: BY_DATA,
+    },
+    Trial {
+        keep: 1,
+        first: NEW,
+        second: Asked {
+            replayed: &[1],
+            ..NEW
+        },
+        third: BY_DATA,
+    },
+    Trial {
+        keep: 8,
+        first: NEW,
+        second: Asked {
+            replayed: &[],
+            ..NEW
+        },
+        third: BY_DATA,
+    },
+    Trial {
+        keep: 8,
+        first: NEW,
+        second: FORTH,
+        third: Asked {
+            replayed: &[],
+            ..FORTH
+        },
+    },
+];
+
+/// An engine answers the three questions of a trial.
+fn assert_three<L: Ledger>(
+    rt: &impl Abort,
+    engine: &mut Engine,
+    entries: &[Record],
+    index: &Index,
+    trial: &Trial,
+    steps: &mut Steps<L>,
+) -> Result<(), QueryError>
+    requires countable { AreCountable entries.now }
+    requires indexed { Indexes index.now entries.now }
+    requires seen { HasSeen entries.now engine.old }
+{
+    assert_answers(rt, engine, entries, index, &trial.first, steps)?;
+    assert_answers(rt, engine, entries, index, &trial.second, steps)?;
+    assert_answers(rt, engine, entries, index, &trial.third, steps)
+}
+
+fn assert_kept_counted<L: Ledger>(
+    rt: &(impl Abort + AllocGlobal),
+    entries: &[Record],
+    index: &Index,
+    trial: &Trial,
+    blank: Blank,
+) -> Result<(), QueryError>
+    requires countable { AreCountable entries.now }
+    requires indexed { Indexes index.now entries.now }
+    requires name { blank.name ≡ L.name }
+    requires parts { blank.parts ≡ L.parts }
+    requires some { 0 < blank.parts }
+{
+    let mut steps = Steps::<L>::new(blank);
+    let mut engine = Engine::new(rt.alloc(), trial.keep)?;
+    assert_three(rt, &mut engine, entries, index, trial, &mut steps)
+}
+
+/// A new engine answers the questions of a trial.
+fn assert_kept(
+    rt: &(impl Abort + AllocGlobal),
+    entries: &[Record],
+    index: &Index,
+    trial: &Trial,
+) -> Result<(), QueryError>
+    requires countable { AreCountable entries.now }
+    requires indexed { Indexes index.now entries.now }
+{
+    assert_kept_counted::<Brand>(rt, entries, index, trial, Blank::new(1))
+}
+
+#[test]
+fn an_engine_replays_what_it_must(rt: HostRuntime) -> Result<(), Fail> {
+    let store = recorded(&rt, BESIDE, BESIDE_PRINTS)?;
+    let entries = store.entries();
+    assert!(rt; are_countable(entries));
+    let index = Index::build(rt.alloc(), entries)?;
+    for trial in &TRIALS {
+        assert_kept(&rt, entries, &index, trial)?;
+    }
+    assert_counted(&rt, entries, &index)
+}
+
+/// Which groups are replayed for where the typed bytes went, asked over records, and then over these and
+/// more of them.
+fn later_counted<L: Ledger>(
+    alloc: Global,
+    before: &[Record],
+    _more: &[Record],
+    entries: &[Record],
+    blank: Blank,
+) -> Result<(Answer, Answer), Fail>
+    requires earlier { AreCountable before.now }
+    requires countable { AreCountable entries.now }
+    requires whole { entries.now ≡ before.now ++ _more.now }
+    requires name { blank.name ≡ L.name }
+    requires parts { blank.parts ≡ L.parts }
+    requires some { 0 < blank.parts }
+{
+    let earlier = Index::build(alloc, before)?;
+    let index = Index::build(alloc, entries)?;
+    let mut steps = Steps::<L>::new(blank);
+    let mut engine = Engine::new(alloc, 8)?;
+    let first = engine.forth(before, &earlier, Linkage::Copy, 2, 0, 3, &mut steps)?;
+    seen_stays();
+    let again = engine.forth(entries, &index, Linkage::Copy, 2, 0, 3, &mut steps)?;
+    Ok((first, again))
+}
+
+fn later(
+    alloc: Global,
+    before: &[Record],
+    more: &[Record],
+    entries: &[Record],
+) -> Result<(Answer, Answer), Fail>
+    requires earlier { AreCountable before.now }
+    requires countable { AreCountable entries.now }
+    requires whole { entries.now ≡ before.now ++ more.now }
+{
+    later_counted::<Brand>(alloc, before, more, entries, Blank::new(1))
+}
+
+/// The last record is a slice of group 2, so no other group is replayed once it has come.
+#[test]
+fn an_engine_goes_on_over_more_records(rt: HostRuntime) -> Result<(), Fail> {
+    let store = recorded(&rt, BESIDE, BESIDE_PRINTS)?;
+    let entries = store.entries();
+    let (before, more) = entries.split_at(entries.len().saturating_sub(1));
+    assert!(rt; are_countable(before));
+    assert!(rt; are_countable(entries));
+    assert!(rt; matches!(more, [Record::Slice { pid: 2, .. }]));
+    let (first, again) = later(rt.alloc(), before, more, entries)?;
+    assert_same(
+        &rt,
+        (first.replayed.as_slice(), first.pairs.as_slice()),
+        ([1, 2, 3].as_slice(), REACHED),
+    );
+    assert_same(
+        &rt,
+        (again.replayed.as_slice(), again.pairs.as_slice()),
+        ([2].as_slice(), REACHED),
+    );
+    Ok(())
+}
 
 /// How many instructions ran: those that an observer is told of, and each call.
 #[derive(Clone, Copy, Debug, PartialEq, Eq)]
@@ -48,36 +354,6 @@ impl Observer for Counter {
         }
         Ok(())
     }
-}
-
-/// Where the three bytes of event 10 come from, asked of a new engine.
-fn asked_counted<L: Ledger>(
-    alloc: Global,
-    entries: &[Record],
-    index: &Index,
-    blank: Blank,
-) -> Result<Answer, QueryError>
-    requires countable { AreCountable entries.now }
-    requires indexed { Indexes index.now entries.now }
-    requires name { blank.name ≡ L.name }
-    requires parts { blank.parts ≡ L.parts }
-    requires some { 0 < blank.parts }
-{
-    let mut steps = Steps::<L>::new(blank);
-    let mut engine = Engine::new(alloc, 0)?;
-    let target = Target::Event {
-        event: 10,
-        from: 0,
-        len: 3,
-    };
-    engine.back(entries, index, Linkage::Copy, &target, &mut steps)
-}
-
-fn asked(alloc: Global, entries: &[Record], index: &Index) -> Result<Answer, QueryError>
-    requires countable { AreCountable entries.now }
-    requires indexed { Indexes index.now entries.now }
-{
-    asked_counted::<Brand>(alloc, entries, index, Blank::new(1))
 }
 
 /// How many instructions of a group run up to a moment.
@@ -122,44 +398,6 @@ fn instructions_of(
     ran_counted::<Brand>(alloc, entries, index, group, until, Blank::new(1))
 }
 
-/// The three bytes that were typed.
-pub const PAIRS: &[Pair] = &[
-    Pair {
-        event: 2,
-        at: 0,
-        byte: 0,
-    },
-    Pair {
-        event: 2,
-        at: 1,
-        byte: 1,
-    },
-    Pair {
-        event: 2,
-        at: 2,
-        byte: 2,
-    },
-];
-
-/// Groups 1 and 3 are replayed, and not the one that spins. A query executes the 20 and 12 instructions of their whole runs.
-fn assert_answered(
-    rt: &(impl Abort + AllocGlobal),
-    entries: &[Record],
-    index: &Index,
-) -> Result<(), Fail>
-    requires countable { AreCountable entries.now }
-    requires indexed { Indexes index.now entries.now }
-{
-    let answer = asked(rt.alloc(), entries, index)?;
-    assert_same(rt, answer.replayed.as_slice(), [1, 3].as_slice());
-    assert_same(
-        rt,
-        (answer.pairs.as_slice(), answer.instructions),
-        (PAIRS, 32),
-    );
-    Ok(())
-}
-
 /// Up to event 10 group 1 runs all of its 20 instructions, and group 3 all but the last three of 12.
 fn assert_counted(
     rt: &(impl Abort + AllocGlobal),
@@ -174,14 +412,4 @@ fn assert_counted(
     let third = instructions_of(rt.alloc(), entries, index, 3, until)?;
     assert_same(rt, (first, third), (20, 9));
     Ok(())
-}
-
-#[test]
-fn an_engine_replays_what_is_connected(rt: HostRuntime) -> Result<(), Fail> {
-    let store = recorded(&rt, BESIDE, BESIDE_PRINTS)?;
-    let entries = store.entries();
-    assert!(rt; are_countable(entries));
-    let index = Index::build(rt.alloc(), entries)?;
-    assert_answered(&rt, entries, &index)?;
-    assert_counted(&rt, entries, &index)
 }

@@ -10,8 +10,6 @@ mod engines;
 #[cfg(test)]
 mod given;
 #[cfg(test)]
-mod kept;
-#[cfg(test)]
 mod same;
 #[cfg(test)]
 mod scripts;

@@ -3,10 +3,9 @@ use crate::same::assert_same;
 use arn_base::{Bytes, Device, Disk, NoMemory};
 use arn_session::Status;
 use log_disk::MemDisk;
-use log_store::Store;
+use log_store::{OpenError, Store};
 use session_trials::{Script, run_on, run_with};
 use std::process::Abort;
-use std::test::Fail;
 
 /// A session with these devices over the log of a disk ends so, prints this, and leaves these slots filled.
 pub fn assert_ends<D: Disk>(
@@ -27,7 +26,11 @@ pub fn assert_ends<D: Disk>(
 }
 
 /// The log of a session that prints this.
-pub fn recorded(rt: &(impl Abort + AllocGlobal), text: &str, prints: &str) -> Result<Store, Fail> {
+pub fn recorded(
+    rt: &(impl Abort + AllocGlobal),
+    text: &str,
+    prints: &str,
+) -> Result<Store, OpenError> {
     let alloc = rt.alloc();
     let mut disk = MemDisk::new(alloc, Bytes::new(alloc));
     let ended = run_on(alloc, &["log"], &Script::of(text.as_bytes()), &mut disk)?;
@@ -36,5 +39,5 @@ pub fn recorded(rt: &(impl Abort + AllocGlobal), text: &str, prints: &str) -> Re
         (ended.status, ended.sink.bytes()),
         (Status::Done, prints.as_bytes()),
     );
-    Ok(Store::open_log(alloc, &mut disk)?)
+    Store::open_log(alloc, &mut disk)
 }
