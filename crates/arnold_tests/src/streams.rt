@@ -156,12 +156,15 @@ fn assert_prints(
     Ok(())
 }
 
-#[test]
-fn prints_the_answer_to_each_line(rt: HostRuntime) -> Result<(), Fail> {
+fn assert_each_line(rt: &(impl Abort + AllocGlobal)) -> Result<(), NoMemory> {
     let text = text_of(rt.alloc(), EXCHANGES)?;
     let printed = printed_within(rt.alloc(), EXCHANGES, text.len())?;
-    assert_prints(&rt, text.as_str(), printed.as_str())?;
-    Ok(())
+    assert_prints(rt, text.as_str(), printed.as_str())
+}
+
+#[test]
+fn prints_the_answer_to_each_line(rt: HostRuntime) -> Result<(), Fail> {
+    Ok(assert_each_line(&rt)?)
 }
 
 /// Words that aren't accepted.
@@ -183,14 +186,18 @@ fn assert_refused(
     Ok(())
 }
 
-#[test]
-fn refuses_other_words(rt: HostRuntime) -> Result<(), Fail> {
+fn assert_other_words(rt: &(impl Abort + AllocGlobal)) -> Result<(), NoMemory> {
     let junk = Bytes::from_slice(rt.alloc(), b"junk")?;
     let mut disk = MemDisk::new(rt.alloc(), junk);
     for words in REFUSED {
-        assert_refused(&rt, &mut disk, words)?;
+        assert_refused(rt, &mut disk, words)?;
     }
     Ok(())
+}
+
+#[test]
+fn refuses_other_words(rt: HostRuntime) -> Result<(), Fail> {
+    Ok(assert_other_words(&rt)?)
 }
 
 /// Where this call of the source fails, the lines are answered that the calls before gave. The last
@@ -211,25 +218,33 @@ fn assert_given(rt: &(impl Abort + AllocGlobal), text: &str, call: usize) -> Res
     assert_fresh(rt, &script, (status, printed.as_str()))
 }
 
-#[test]
-fn answers_what_a_failing_source_gave(rt: HostRuntime) -> Result<(), Fail> {
+fn assert_all_given(rt: &(impl Abort + AllocGlobal)) -> Result<(), NoMemory> {
     let text = text_of(rt.alloc(), EXCHANGES)?;
     for call in 0..=text.len() / PIECE + 1 {
-        assert_given(&rt, text.as_str(), call)?;
+        assert_given(rt, text.as_str(), call)?;
     }
     Ok(())
 }
 
+#[test]
+fn answers_what_a_failing_source_gave(rt: HostRuntime) -> Result<(), Fail> {
+    Ok(assert_all_given(&rt)?)
+}
+
 /// The source gives ten bytes at once: a line with its LF, and then parts of a block.
+fn assert_block(rt: &(impl Abort + AllocGlobal), call: u32) -> Result<(), NoMemory> {
+    let script = Script {
+        piece: 10,
+        source_fails: &[call],
+        ..Script::of(b"file q 00\nasm p\nli a0, 0\nend")
+    };
+    assert_fresh(rt, &script, (Status::Source, "event 0\n"))
+}
+
 #[test]
 fn a_source_fails_within_a_block(rt: HostRuntime) -> Result<(), Fail> {
-    for call in [1, 2, 3] {
-        let script = Script {
-            piece: 10,
-            source_fails: &[call],
-            ..Script::of(b"file q 00\nasm p\nli a0, 0\nend")
-        };
-        assert_fresh(&rt, &script, (Status::Source, "event 0\n"))?;
+    for call in 1..4 {
+        assert_block(&rt, call)?;
     }
     Ok(())
 }
@@ -266,32 +281,50 @@ fn ends_at_sink(
 /// No session here asks its sink so often.
 const MOST_CALLS: u32 = 1_000;
 
-/// A sink that failed isn't asked again.
-#[test]
-fn a_failing_sink_holds_what_came_before(rt: HostRuntime) -> Result<(), Fail> {
-    let text = text_of(rt.alloc(), EXCHANGES)?;
-    let printed = printed_within(rt.alloc(), EXCHANGES, text.len())?;
+/// The first call of the sink whose failure doesn't end the session, since it isn't made.
+fn sink_calls(
+    rt: &(impl Abort + AllocGlobal),
+    text: &str,
+    printed: &[u8],
+) -> Result<u32, NoMemory> {
     let mut calls = MOST_CALLS;
     for call in 0..MOST_CALLS {
-        if calls == MOST_CALLS && ends_at_sink(&rt, text.as_str(), printed.as_bytes(), call)? {
+        if calls == MOST_CALLS && ends_at_sink(rt, text, printed, call)? {
             calls = call;
         }
     }
-    assert_same(&rt, (1..MOST_CALLS).contains(&calls), true);
+    Ok(calls)
+}
+
+/// A sink that failed isn't asked again.
+fn assert_held(rt: &(impl Abort + AllocGlobal)) -> Result<(), NoMemory> {
+    let text = text_of(rt.alloc(), EXCHANGES)?;
+    let printed = printed_within(rt.alloc(), EXCHANGES, text.len())?;
+    let calls = sink_calls(rt, text.as_str(), printed.as_bytes())?;
+    assert_same(rt, 0 < calls && calls < MOST_CALLS, true);
     Ok(())
 }
 
-/// A source that fails at its first call leaves a fresh log.
 #[test]
-fn a_source_that_fails_at_once_leaves_a_fresh_log(rt: HostRuntime) -> Result<(), Fail> {
+fn a_failing_sink_holds_what_came_before(rt: HostRuntime) -> Result<(), Fail> {
+    Ok(assert_held(&rt)?)
+}
+
+/// A source that fails at its first call leaves a fresh log.
+fn assert_unread(rt: &(impl Abort + AllocGlobal)) -> Result<(), NoMemory> {
     let mut disk = MemDisk::new(rt.alloc(), Bytes::new(rt.alloc()));
     let script = Script {
         source_fails: &[0],
         ..Script::of(TYPED.as_bytes())
     };
-    assert_ends(&rt, &mut disk, &["log"], &script, (Status::Source, ""))?;
-    assert_same(&rt, disk.bytes(), b"ARNLOG01\0".as_slice());
+    assert_ends(rt, &mut disk, &["log"], &script, (Status::Source, ""))?;
+    assert_same(rt, disk.bytes(), b"ARNLOG01\0".as_slice());
     Ok(())
+}
+
+#[test]
+fn a_source_that_fails_at_once_leaves_a_fresh_log(rt: HostRuntime) -> Result<(), Fail> {
+    Ok(assert_unread(&rt)?)
 }
 
 /// What is asked of the log that a sink leaves which fails at its first call: the file is there whose
@@ -305,21 +338,19 @@ const LOST_PRINTS: &str = "\
     file 41524e494d473031000001000000000000000100000000009308b00013050000930501ff1306300073000000\
     9308c0001305100073000000930810001305000073000000\n";
 
-#[test]
-fn a_sink_that_fails_at_once_leaves_the_first_record(rt: HostRuntime) -> Result<(), Fail> {
+fn assert_lost(rt: &(impl Abort + AllocGlobal)) -> Result<(), NoMemory> {
     let mut disk = MemDisk::new(rt.alloc(), Bytes::new(rt.alloc()));
     let script = Script {
         sink_fails: &[0],
         ..Script::of(TYPED.as_bytes())
     };
-    assert_ends(&rt, &mut disk, &["log"], &script, (Status::Sink, ""))?;
+    assert_ends(rt, &mut disk, &["log"], &script, (Status::Sink, ""))?;
     let asked = Script::of(LOST.as_bytes());
-    assert_ends(
-        &rt,
-        &mut disk,
-        &["log"],
-        &asked,
-        (Status::Done, LOST_PRINTS),
-    )?;
-    Ok(())
+    let wanted = (Status::Done, LOST_PRINTS);
+    assert_ends(rt, &mut disk, &["log"], &asked, wanted)
+}
+
+#[test]
+fn a_sink_that_fails_at_once_leaves_the_first_record(rt: HostRuntime) -> Result<(), Fail> {
+    Ok(assert_lost(&rt)?)
 }

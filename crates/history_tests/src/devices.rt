@@ -1,6 +1,6 @@
 // Sessions whose programs read and write devices, and what is printed for them.
 use crate::sessions::assert_ends;
-use arn_base::{Bytes, Device, NoMemory, Numbers, Reply, Took};
+use arn_base::{Bytes, Device, Disk, NoMemory, Numbers, Reply, Took};
 use arn_session::Status;
 use guest_devices::{ScriptDevice, ScriptReply};
 use log_disk::{FuseDisk, MemDisk};
@@ -461,13 +461,17 @@ fn assert_prints(
     Ok(())
 }
 
-#[test]
-fn devices_give_and_take(rt: HostRuntime) -> Result<(), Fail> {
+fn assert_devices(rt: &(impl Abort + AllocGlobal)) -> Result<(), NoMemory> {
     for sessions in SESSIONS {
         let mut disk = MemDisk::new(rt.alloc(), Bytes::new(rt.alloc()));
-        assert_prints(&rt, &mut disk, sessions)?;
+        assert_prints(rt, &mut disk, sessions)?;
     }
     Ok(())
+}
+
+#[test]
+fn devices_give_and_take(rt: HostRuntime) -> Result<(), Fail> {
+    Ok(assert_devices(&rt)?)
 }
 
 /// A device is unplugged behind two other events.
@@ -481,27 +485,34 @@ const UNPLUGGED: &str = "\
 /// What is printed before the device is unplugged.
 const BEFORE: &str = "event 0\nevent 1\n";
 
-/// A session on an empty disk of which this call fails ends there. The device is gone then.
-fn assert_gone(rt: &(impl Abort + AllocGlobal), call: u32) -> Result<(), NoMemory> {
+/// The session ends so behind that, and the device is gone then.
+fn assert_gone<D: Disk>(
+    rt: &(impl Abort + AllocGlobal),
+    disk: &mut D,
+    sink_fails: &[u32],
+    status: Status,
+) -> Result<(), NoMemory> {
+    let script = Script {
+        sink_fails,
+        ..Script::of(UNPLUGGED.as_bytes())
+    };
+    let slots = devices(rt, &[Kind::Scripted])?;
+    assert_ends(rt, disk, &script, slots, (status, BEFORE, &[false]))
+}
+
+/// So it does on an empty disk of which this call fails.
+fn assert_uncommitted(rt: &(impl Abort + AllocGlobal), call: u32) -> Result<(), NoMemory> {
     let mut fails = Numbers::new(rt.alloc());
     fails.push(call)?;
     let mut disk = FuseDisk::new(rt.alloc(), Bytes::new(rt.alloc()), fails);
-    let script = Script::of(UNPLUGGED.as_bytes());
-    let slots = devices(rt, &[Kind::Scripted])?;
-    assert_ends(
-        rt,
-        &mut disk,
-        &script,
-        slots,
-        (Status::Disk, BEFORE, &[false]),
-    )
+    assert_gone(rt, &mut disk, &[], Status::Disk)
 }
 
 #[test]
 fn a_device_is_gone_though_the_commit_fails(rt: HostRuntime) -> Result<(), Fail> {
     // The opening takes four calls of the disk, and so does each commit.
     for call in 12..16 {
-        assert_gone(&rt, call)?;
+        assert_uncommitted(&rt, call)?;
     }
     Ok(())
 }
@@ -520,21 +531,13 @@ const LATER_UNPLUGGED: &[Session] = &[Session {
     filled: &[true],
 }];
 
+fn assert_unanswered(rt: &(impl Abort + AllocGlobal)) -> Result<(), NoMemory> {
+    let mut disk = MemDisk::new(rt.alloc(), Bytes::new(rt.alloc()));
+    assert_gone(rt, &mut disk, &[2], Status::Sink)?;
+    assert_prints(rt, &mut disk, LATER_UNPLUGGED)
+}
+
 #[test]
 fn a_device_is_gone_though_the_answer_is_lost(rt: HostRuntime) -> Result<(), Fail> {
-    let mut disk = MemDisk::new(rt.alloc(), Bytes::new(rt.alloc()));
-    let script = Script {
-        sink_fails: &[2],
-        ..Script::of(UNPLUGGED.as_bytes())
-    };
-    let slots = devices(&rt, &[Kind::Scripted])?;
-    assert_ends(
-        &rt,
-        &mut disk,
-        &script,
-        slots,
-        (Status::Sink, BEFORE, &[false]),
-    )?;
-    assert_prints(&rt, &mut disk, LATER_UNPLUGGED)?;
-    Ok(())
+    Ok(assert_unanswered(&rt)?)
 }

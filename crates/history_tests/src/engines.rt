@@ -250,16 +250,19 @@ fn assert_kept(
     assert_kept_counted::<Brand>(rt, entries, index, trial, Blank::new(1))
 }
 
-#[test]
-fn an_engine_replays_what_it_must(rt: HostRuntime) -> Result<(), Fail> {
-    let store = recorded(&rt, BESIDE, BESIDE_PRINTS)?;
-    let entries = store.entries();
+fn assert_trials(rt: &(impl Abort + AllocGlobal), entries: &[Record]) -> Result<(), Fail> {
     assert!(rt; are_countable(entries));
     let index = Index::build(rt.alloc(), entries)?;
     for trial in &TRIALS {
-        assert_kept(&rt, entries, &index, trial)?;
+        assert_kept(rt, entries, &index, trial)?;
     }
-    assert_counted(&rt, entries, &index)
+    assert_counted(rt, entries, &index)
+}
+
+#[test]
+fn an_engine_replays_what_it_must(rt: HostRuntime) -> Result<(), Fail> {
+    let store = recorded(&rt, BESIDE, BESIDE_PRINTS)?;
+    assert_trials(&rt, store.entries())
 }
 
 /// Which groups are replayed for where the typed bytes went, asked over records, and then over these and
@@ -301,27 +304,31 @@ fn later(
     later_counted::<Brand>(alloc, before, more, entries, Blank::new(1))
 }
 
+/// An engine replays these groups for where the typed bytes went.
+fn assert_reached(rt: &impl Abort, answer: &Answer, replayed: &[u32]) {
+    assert_same(
+        rt,
+        (answer.replayed.as_slice(), answer.pairs.as_slice()),
+        (replayed, REACHED),
+    );
+}
+
 /// The last record is a slice of group 2, so no other group is replayed once it has come.
-#[test]
-fn an_engine_goes_on_over_more_records(rt: HostRuntime) -> Result<(), Fail> {
-    let store = recorded(&rt, BESIDE, BESIDE_PRINTS)?;
-    let entries = store.entries();
+fn assert_more(rt: &(impl Abort + AllocGlobal), entries: &[Record]) -> Result<(), Fail> {
     let (before, more) = entries.split_at(entries.len().saturating_sub(1));
     assert!(rt; are_countable(before));
     assert!(rt; are_countable(entries));
     assert!(rt; matches!(more, [Record::Slice { pid: 2, .. }]));
     let (first, again) = later(rt.alloc(), before, more, entries)?;
-    assert_same(
-        &rt,
-        (first.replayed.as_slice(), first.pairs.as_slice()),
-        ([1, 2, 3].as_slice(), REACHED),
-    );
-    assert_same(
-        &rt,
-        (again.replayed.as_slice(), again.pairs.as_slice()),
-        ([2].as_slice(), REACHED),
-    );
+    assert_reached(rt, &first, &[1, 2, 3]);
+    assert_reached(rt, &again, &[2]);
     Ok(())
+}
+
+#[test]
+fn an_engine_goes_on_over_more_records(rt: HostRuntime) -> Result<(), Fail> {
+    let store = recorded(&rt, BESIDE, BESIDE_PRINTS)?;
+    assert_more(&rt, store.entries())
 }
 
 /// How many instructions ran: those that an observer is told of, and each call.

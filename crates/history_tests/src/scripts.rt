@@ -350,10 +350,14 @@ fn assert_prints(
     Ok(())
 }
 
-#[test]
-fn processes_go_by_a_script(rt: HostRuntime) -> Result<(), Fail> {
+fn assert_scripts(rt: &(impl Abort + AllocGlobal)) -> Result<(), NoMemory> {
     for (choices, sessions) in SESSIONS {
-        assert_prints(&rt, choices, sessions)?;
+        assert_prints(rt, choices, sessions)?;
     }
     Ok(())
+}
+
+#[test]
+fn processes_go_by_a_script(rt: HostRuntime) -> Result<(), Fail> {
+    Ok(assert_scripts(&rt)?)
 }
