@@ -200,10 +200,10 @@ fn refuses_other_words(rt: HostRuntime) -> Result<(), Fail> {
     Ok(assert_other_words(&rt)?)
 }
 
-/// Where this call of the source fails, the lines are answered that the calls before gave. The last
-/// of these calls comes behind the end of the text, and isn't made.
-fn assert_given(rt: &(impl Abort + AllocGlobal), text: &str, call: usize) -> Result<(), NoMemory> {
-    let given = call * PIECE;
+/// Where this call of the source fails, the lines are answered that the calls before gave. A call behind
+/// the end of the text isn't made.
+fn assert_given(rt: &(impl Abort + AllocGlobal), text: &str, call: u32) -> Result<(), NoMemory> {
+    let given = call as usize * PIECE;
     let status = if given > text.len() {
         Status::Done
     } else {
@@ -212,7 +212,7 @@ fn assert_given(rt: &(impl Abort + AllocGlobal), text: &str, call: usize) -> Res
     let printed = printed_within(rt.alloc(), EXCHANGES, given)?;
     let script = Script {
         piece: PIECE,
-        source_fails: &[call as u32],
+        source_fails: &[call],
         ..Script::of(text.as_bytes())
     };
     assert_fresh(rt, &script, (status, printed.as_str()))
@@ -220,7 +220,8 @@ fn assert_given(rt: &(impl Abort + AllocGlobal), text: &str, call: usize) -> Res
 
 fn assert_all_given(rt: &(impl Abort + AllocGlobal)) -> Result<(), NoMemory> {
     let text = text_of(rt.alloc(), EXCHANGES)?;
-    for call in 0..=text.len() / PIECE + 1 {
+    let pieces = (text.len() / PIECE) as u32;
+    for call in 0..pieces.saturating_add(2) {
         assert_given(rt, text.as_str(), call)?;
     }
     Ok(())
