@@ -330,7 +330,12 @@ fn push_write(text: &mut String, event: u32) -> Result<(), NoMemory> {
 }
 
 /// What is printed before, for the writes of these events, and behind them.
-fn writes(alloc: Global, before: &str, events: &[u32], behind: &str) -> Result<String, NoMemory> {
+fn told_writes(
+    alloc: Global,
+    before: &str,
+    events: &[u32],
+    behind: &str,
+) -> Result<String, NoMemory> {
     let mut text = String::from_str(alloc, before)?;
     for event in events {
         push_write(&mut text, *event)?;
@@ -345,7 +350,7 @@ const FIFTH_WRITE: u32 = 16;
 
 /// What a stop leaves where the second leg's commit fails: the first leg, which was printed.
 fn first_leg(rt: &(impl Abort + AllocGlobal)) -> Result<Bytes, NoMemory> {
-    let printed = writes(rt.alloc(), "event 0\nevent 1\n", &[2, 3, 4, 5], "")?;
+    let printed = told_writes(rt.alloc(), "event 0\nevent 1\n", &[2, 3, 4, 5], "")?;
     let first = tried(rt.alloc(), b"", WRITES, FIFTH_WRITE)?;
     assert_ended(
         rt,
@@ -359,7 +364,7 @@ fn first_leg(rt: &(impl Abort + AllocGlobal)) -> Result<Bytes, NoMemory> {
 
 /// The next session runs the second leg: 12 instructions, of which the seventh is the write.
 fn assert_second_leg(rt: &(impl Abort + AllocGlobal), bytes: &[u8]) -> Result<(), NoMemory> {
-    let printed = writes(rt.alloc(), "", &[6], "ran 12 done\n")?;
+    let printed = told_writes(rt.alloc(), "", &[6], "ran 12 done\n")?;
     let next = tried(rt.alloc(), bytes, "run 100\n", NO_CALL)?;
     assert_ended(rt, NO_CALL, &next.ended, Status::Done, printed.as_str());
     Ok(())
