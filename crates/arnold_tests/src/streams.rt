@@ -220,7 +220,7 @@ fn assert_given(rt: &(impl Abort + AllocGlobal), text: &str, call: u32) -> Resul
 
 fn assert_all_given(rt: &(impl Abort + AllocGlobal)) -> Result<(), NoMemory> {
     let text = text_of(rt.alloc(), EXCHANGES)?;
-    let pieces = (text.len() / PIECE) as u32;
+    let pieces = u32::try_from(text.len() / PIECE).unwrap_or(u32::MAX);
     for call in 0..pieces.saturating_add(2) {
         assert_given(rt, text.as_str(), call)?;
     }
