@@ -201,8 +201,8 @@ fn take_all(
     Ok(())
 }
 
-// The only function that holds a machine: each path out of such a one lets the machine go, which
-// makes its proof long.
+// A function that holds a machine makes one call: each path out of such a one lets the machine go,
+// which makes its proof long.
 fn run(
     rt: &impl Abort,
     alloc: Global,
