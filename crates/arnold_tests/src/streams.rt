@@ -200,11 +200,11 @@ fn refuses_other_words(rt: HostRuntime) -> Result<(), Fail> {
     Ok(assert_other_words(&rt)?)
 }
 
-/// Where this call of the source fails, the lines are answered that the calls before gave. A call behind
-/// the end of the text isn't made.
+/// Where this call of the source fails, the lines are answered that the calls before gave. The call behind
+/// the last bytes says that the text has ended, and none is made behind it.
 fn assert_given(rt: &(impl Abort + AllocGlobal), text: &str, call: u32) -> Result<(), NoMemory> {
     let given = call as usize * PIECE;
-    let status = if given > text.len() {
+    let status = if given.saturating_sub(PIECE) >= text.len() {
         Status::Done
     } else {
         Status::Source
@@ -221,7 +221,7 @@ fn assert_given(rt: &(impl Abort + AllocGlobal), text: &str, call: u32) -> Resul
 fn assert_all_given(rt: &(impl Abort + AllocGlobal)) -> Result<(), NoMemory> {
     let text = text_of(rt.alloc(), EXCHANGES)?;
     let pieces = u32::try_from(text.len() / PIECE).unwrap_or(u32::MAX);
-    for call in 0..pieces.saturating_add(2) {
+    for call in 0..pieces.saturating_add(3) {
         assert_given(rt, text.as_str(), call)?;
     }
     Ok(())
