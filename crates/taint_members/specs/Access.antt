@@ -1,8 +1,9 @@
 -- The numbers of a member's bytes by address.
-use Rattle.std.specs.Prelude.{◌≡◌, ◌≢◌, ℕ, ◌+◌, ◌-◌, ◌<◌, ◌≤◌, Bool, true, false, if◌then◌else◌, List, [], length, slice_index, slice_index_or, Option, Some, None, IfSome}
+use Rattle.std.specs.Prelude.{◌≡◌, ◌≢◌, ℕ, ◌+◌, ◌-◌, ◌<◌, ◌≤◌, ◌==◌, ◌||◌, nat_lt, Bool, true, false, if◌then◌else◌, List, [], length, slice_index, slice_index_or, Option, Some, None, IfSome}
 use Rattle.parts_model.specs.declared.limits.TheConstants.{WINDOW_START, SEGMENT_START}
 use Rattle.acts_model.specs.Transfers.{is_private, is_shared}
 use Rattle.taint_pages.specs.Pages.{Puts}
+use Rattle.taint_pages.specs.Rows.{byte_in}
 use Rattle.taint_members.specs.declared.member.MemberSets.{MemberSets}
 use Rattle.taint_members.specs.declared.member.Shared.{Shared}
 
@@ -45,14 +46,38 @@ AreReadShared segment segments at count eight = AreFirst count (shared_number se
 abbrev pub AreRead : MemberSets → Segments → ℕ → ℕ → List ℕ → Type 0
 AreRead m segments at count eight = AreFirst count (number_at m segments at) eight
 
+-- the bytes of one register have the numbers of so many bytes, and zeros behind them
+abbrev pub PutsFirst : ℕ → (ℕ → ℕ) → ℕ → List ℕ → List ℕ → Type 0
+PutsFirst count number reg old new =
+    (r i : ℕ) → i < 8 → byte_in new r i ≡ (if r == reg then (if nat_lt i count then number i else 0) else byte_in old r i)
+
+abbrev pub PutsReadShared : Option Shared → Segments → ℕ → ℕ → ℕ → List ℕ → List ℕ → Type 0
+PutsReadShared segment segments at count reg old new = PutsFirst count (shared_number segment segments at) reg old new
+
+abbrev pub PutsRead : MemberSets → Segments → ℕ → ℕ → ℕ → List ℕ → List ℕ → Type 0
+PutsRead m segments at count reg old new = PutsFirst count (number_at m segments at) reg old new
+
+-- whether an address lies in the segment that may be held
+abbrev pub in_segment : Option Shared → ℕ → Bool
+in_segment None at = false
+in_segment (Some shared) at = is_shared at
+
+-- whether it lies in a memory of a member
+abbrev pub in_memory : Option Shared → ℕ → Bool
+in_memory segment at = is_private at || in_segment segment at
+
 -- the first, where the test holds, and else the other
 abbrev pub ByTest : Bool → Type 0 → Type 0 → Type 0
 ByTest true first other = first
 ByTest false first other = other
 
 -- the numbers of a window from an address on are others, where the address lies in it
+abbrev pub PutsWindow : ℕ → List ℕ → List ℕ → List ℕ → Type 0
+PutsWindow at numbers old new = ByTest (is_private at) (Puts (at - WINDOW_START) numbers old new) (new ≡ old)
+
+-- so are those of a member's window
 abbrev pub WritesWindow : ℕ → List ℕ → MemberSets → MemberSets → Type 0
-WritesWindow at numbers old new = ByTest (is_private at) (Puts (at - WINDOW_START) numbers old.window new.window) (new.window ≡ old.window)
+WritesWindow at numbers old new = PutsWindow at numbers old.window new.window
 
 -- one segment has other numbers, and all others what they had
 pub record WritesKey (key at : ℕ) (numbers : List ℕ) (old new : Segments) : Type 0 where

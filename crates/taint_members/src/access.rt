@@ -1,10 +1,8 @@
 // The numbers of a member's bytes by address.
-ghost use Rattle.std.specs.Prelude.{◌≡◌, ◌≤◌, ◌<◌, ◌^◌, ◌-◌, ◌↔◌, IsTrue, false, length, IfOk, IfSome, IsOk, OnOk};
+ghost use Rattle.std.specs.Prelude.{◌≡◌, ◌≤◌, ◌<◌, ◌^◌, IsTrue, false, length, IfSome, IsOk, OnOk};
 ghost use Rattle.acts_model.specs.Transfers.{is_private, is_shared};
 ghost use Rattle.parts_model.specs.declared.limits.TheConstants as limits;
-ghost use Rattle.taint_members.specs.Access.{AreRead, AreReadShared, ByTest, HoldsKey, WritesSegment, WritesWindow, from_start, number_at, shared_number};
-ghost use Rattle.taint_pages.specs.Pages.{Puts};
-ghost use Rattle.taint_pages.specs.Rows.{PutsFrom};
+ghost use Rattle.taint_members.specs.Access.{AreRead, AreReadShared, HoldsKey, PutsRead, PutsReadShared, PutsWindow, WritesSegment, WritesWindow, from_start, in_memory, in_segment, number_at, shared_number};
 
 use crate::member::{MemberSets, Shared};
 use arn_base::NoMemory;
@@ -26,6 +24,7 @@ fn window_offset(at: u64) -> Option<usize>
 }
 
 /// How far it lies in the shared one.
+#[inline(always)]
 fn segment_offset(at: u64) -> Option<usize>
     ensures offset { result ≡ from_start (is_shared at) limits.SEGMENT_START at }
     ensures small { IfSome result (λ offset. offset < 65536) }
@@ -77,6 +76,7 @@ pub fn read(member: &MemberSets, segments: &[SetNumbers], at: u64, len: usize) -
 }
 
 /// The same of a segment that may be held.
+#[inline(always)]
 fn read_segment(segment: Option<Shared>, segments: &[SetNumbers], at: u64, len: usize) -> [u32; 8]
     requires few { len ≤ 8 }
     requires held { HoldsKey segment segments.now }
@@ -85,6 +85,64 @@ fn read_segment(segment: Option<Shared>, segments: &[SetNumbers], at: u64, len: 
     match (segment, segment_offset(at)) {
         (Some(shared), Some(offset)) => segments[shared.key].eight(offset, len),
         _ => [0; 8],
+    }
+}
+
+/// Sets the numbers of a register that isn't x0 to those of so many bytes, at most eight, from an
+/// address on, and zeros behind them. False says that the address lies outside the member's
+/// memories: then nothing changes.
+#[inline(always)]
+pub fn load_register(
+    member: &mut MemberSets,
+    segments: &[SetNumbers],
+    at: u64,
+    len: usize,
+    reg: Reg,
+) -> bool
+    requires few { len ≤ 8 }
+    requires above { 0 < reg }
+    requires held { HoldsKey member.old.segment segments.now }
+    ensures told { result ≡ in_memory member.old.segment at }
+    ensures puts { IsTrue result → PutsRead member.old segments.now at len reg
+        member.old.registers member.new.registers }
+    ensures others { member.new ≡ record member.old { registers = member.new.registers } }
+    ensures kept { result ≡ false → member.new ≡ member.old }
+{
+    match window_offset(at) {
+        Some(offset) => {
+            member
+                .window
+                .move_to(offset, len, &mut member.registers, reg);
+            true
+        }
+        None => load_segment(member, segments, at, len, reg),
+    }
+}
+
+/// The same from the segment that the member may hold.
+#[inline(always)]
+fn load_segment(
+    member: &mut MemberSets,
+    segments: &[SetNumbers],
+    at: u64,
+    len: usize,
+    reg: Reg,
+) -> bool
+    requires few { len ≤ 8 }
+    requires above { 0 < reg }
+    requires held { HoldsKey member.old.segment segments.now }
+    ensures told { result ≡ in_segment member.old.segment at }
+    ensures puts { IsTrue result → PutsReadShared member.old.segment segments.now at len reg
+        member.old.registers member.new.registers }
+    ensures others { member.new ≡ record member.old { registers = member.new.registers } }
+    ensures kept { result ≡ false → member.new ≡ member.old }
+{
+    match (member.segment, segment_offset(at)) {
+        (Some(shared), Some(offset)) => {
+            segments[shared.key].move_to(offset, len, &mut member.registers, reg);
+            true
+        }
+        _ => false,
     }
 }
 
@@ -105,13 +163,36 @@ pub fn write(
     ensures others { member.new ≡ record member.old { window = member.new.window } }
     ensures keys { length segments.new ≡ length segments.old }
 {
+    write_bytes(&mut member.window, member.segment, segments, at, numbers)
+}
+
+/// The same by a member's window and the segment that it may hold.
+#[inline(always)]
+pub fn write_bytes(
+    window: &mut SetNumbers,
+    segment: Option<Shared>,
+    segments: &mut [SetNumbers],
+    at: u64,
+    numbers: &[u32],
+) -> Result<(), NoMemory>
+    requires few { length numbers.now < 2 ^ 31 }
+    requires held { HoldsKey segment segments.old }
+    ensures window { OnOk result (PutsWindow at numbers.now window.old window.new) }
+    ensures segment { OnOk result
+        (WritesSegment at numbers.now segment segments.old segments.new) }
+    ensures len { length window.new ≡ length window.old }
+    ensures elsewhere { is_private at ≡ false → window.new ≡ window.old }
+    ensures outside { in_memory segment at ≡ false → IsOk result }
+    ensures keys { length segments.new ≡ length segments.old }
+{
     match window_offset(at) {
-        Some(offset) => member.window.put(offset, numbers),
-        None => write_segment(member.segment, segments, at, numbers),
+        Some(offset) => window.put(offset, numbers),
+        None => write_segment(segment, segments, at, numbers),
     }
 }
 
 /// The same in a segment that may be held.
+#[inline(always)]
 fn write_segment(
     segment: Option<Shared>,
     segments: &mut [SetNumbers],
@@ -121,54 +202,11 @@ fn write_segment(
     requires few { length numbers.now < 2 ^ 31 }
     requires held { HoldsKey segment segments.old }
     ensures segment { OnOk result (WritesSegment at numbers.now segment segments.old segments.new) }
+    ensures outside { in_segment segment at ≡ false → IsOk result }
     ensures keys { length segments.new ≡ length segments.old }
 {
     match (segment, segment_offset(at)) {
         (Some(shared), Some(offset)) => segments[shared.key].put(offset, numbers),
         _ => Ok(()),
-    }
-}
-
-/// Sets the numbers of a register that isn't x0 to those of so many bytes, at most eight, from an address in the private window on,
-/// and zeros behind them. False says that the address lies elsewhere: then nothing changes.
-#[inline(always)]
-pub fn load_window(member: &mut MemberSets, at: u64, len: usize, reg: Reg) -> bool
-    requires few { len ≤ 8 }
-    requires above { 0 < reg }
-    ensures told { result ≡ is_private at }
-    ensures puts { IsTrue result → PutsFrom member.old.window (at - limits.WINDOW_START) len reg
-        member.old.registers member.new.registers }
-    ensures others { member.new ≡ record member.old { registers = member.new.registers } }
-    ensures kept { result ≡ false → member.new ≡ member.old }
-{
-    match window_offset(at) {
-        Some(offset) => {
-            member
-                .window
-                .move_to(offset, len, &mut member.registers, reg);
-            true
-        }
-        None => false,
-    }
-}
-
-/// Sets the numbers of several bytes from an address in a private window on, as far as they lie in it. False says that the
-/// address lies elsewhere: then nothing is set.
-#[inline(always)]
-pub fn write_window(window: &mut SetNumbers, at: u64, numbers: &[u32]) -> Result<bool, NoMemory>
-    requires few { length numbers.now < 2 ^ 31 }
-    ensures told { IfOk result (λ told. told ≡ is_private at) }
-    ensures puts { OnOk result (ByTest (is_private at)
-        (Puts (at - limits.WINDOW_START) numbers.now window.old window.new)
-        (window.new ≡ window.old)) }
-    ensures len { length window.new ≡ length window.old }
-    ensures elsewhere { is_private at ≡ false → IsOk result × (window.new ≡ window.old) }
-{
-    match window_offset(at) {
-        Some(offset) => {
-            window.put(offset, numbers)?;
-            Ok(true)
-        }
-        None => Ok(false),
     }
 }

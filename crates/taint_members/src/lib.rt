@@ -5,5 +5,5 @@
 mod access;
 mod member;
 
-pub use access::{load_window, number, read, write, write_window};
+pub use access::{load_register, number, read, write, write_bytes};
 pub use member::{MemberSets, Shared};

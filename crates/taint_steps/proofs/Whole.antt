@@ -1,11 +1,9 @@
--- Sets that are moved whole between a register and the private window.
-use Rattle.std.proofs.Common.{◌≡◌, ℕ, zero, suc, ◌+◌, ◌-◌, ◌<◌, ◌≤◌, ◌==◌, ◌&&◌, Bool, true, false, nat_lt, nat_le, if◌then◌else◌, IsTrue, List, [], ◌∷◌, ◌++◌, length, take, replicate, slice_index, Option, None, Some, refl, sym, ap, subst, ◌∙◌, arith, length-append}
-use Rattle.std.proofs.lemmas.Bool.{lt-ltb, le-ltb, leb-true, ltb-true, ltb-false, eqb-true}
+-- Sets that are moved whole between a register and memory.
+use Rattle.std.proofs.Common.{◌≡◌, ℕ, zero, suc, ◌-◌, ◌<◌, ◌≤◌, ◌==◌, ◌&&◌, Bool, true, false, nat_lt, if◌then◌else◌, List, [], ◌∷◌, ◌++◌, length, take, replicate, slice_index, Option, None, Some, refl, sym, ap, subst, ◌∙◌, arith, length-append}
+use Rattle.std.proofs.lemmas.Bool.{lt-ltb, le-ltb, ltb-true, ltb-false, eqb-true}
 use Rattle.std.proofs.lemmas.List.{get_or_append_left, get_or-append_right, get_or-take, length-replicate, length-take-le}
 use Rattle.std.proofs.Math.Seq.{take-append_seam}
 use Rattle.arn_base.specs.declared.machine.Cpu.{Cpu}
-use Rattle.acts_model.specs.Transfers.{is_private, is_shared}
-use Rattle.parts_model.specs.declared.limits.TheConstants.{WINDOW_START, WINDOW_END, SEGMENT_START, SEGMENT_END}
 use Rattle.rv64_isa.specs.declared.instruction.Instr.{Instr}
 use Rattle.rv64_isa.specs.declared.instruction.Instr.TheVariants.{Load, Store}
 use Rattle.rv64_model.specs.declared.linkage.Linkage.{Linkage}
@@ -17,10 +15,9 @@ use Rattle.taint_flow.specs.Gathered.{AreNumbers, number_of}
 use Rattle.taint_flow.specs.Moving.{MovesLoaded, MovesStored}
 use Rattle.taint_flow.specs.Names.{loaded_len}
 use Rattle.taint_flow.specs.Results.{AreResults}
-use Rattle.taint_members.specs.Access.{AreFirst, ByTest, Segments, WritesHeld, number_at, shared_number}
+use Rattle.taint_members.specs.Access.{AreFirst, PutsRead, PutsWindow, Segments, WritesSegment, WritesWindow, number_at}
 use Rattle.taint_members.specs.declared.member.MemberSets.{MemberSets}
-use Rattle.taint_pages.specs.Pages.{Puts}
-use Rattle.taint_pages.specs.Rows.{PutsFrom, byte_in, number_from}
+use Rattle.taint_pages.specs.Rows.{byte_in}
 use Rattle.taint_steps.specs.Running.{Runs, StoresSegment, StoresWindow, WritesRegister}
 use Rattle.taint_steps.specs.Taking.{AreSetsAt, AreSetsIn, IsRead, IsRegister, no_bytes}
 use Rattle.taint_steps.proofs.NothingLoaded.{nothing, read-none}
@@ -53,7 +50,7 @@ zero-at (suc n) (suc i) = zero-at n i
 -- the window is what it was
 window-same : (at : Option ℕ) (numbers : List ℕ) (m n : MemberSets) → n.window ≡ m.window → StoresWindow at numbers m m → StoresWindow at numbers m n
 window-same None numbers m n e stores = e
-window-same (Some at) numbers m n e stores = subst (λ (w : List ℕ). ByTest (is_private at) (Puts (at - WINDOW_START) numbers m.window w) (w ≡ m.window)) (sym e) stores
+window-same (Some at) numbers m n e stores = subst (PutsWindow at numbers m.window) (sym e) stores
 
 -- a load stores nothing
 loads-stored : (linkage : Linkage) (instr : Instr) → MovesLoaded linkage instr → stored_len instr ≡ 0
@@ -64,23 +61,19 @@ module _ (sets : Numbered) (linkage : Linkage) (instr : Instr) (before : Cpu) (m
     (empty : IsSet sets 0) (loads : MovesLoaded linkage instr)
     (results : (first second loaded numbers : List ℕ) → AreNumbers sets loaded → Moves loaded (loaded_len instr) numbers → AreResults sets sets (number_of first second loaded) (operands linkage instr) numbers)
     (few : loaded_len instr ≤ 8) (is_at : accessed instr before ≡ Some at) (is_reg : reg ≡ rd_of instr) (above : 0 < reg)
-    (private : IsTrue (is_private at))
-    (puts : PutsFrom m.window (at - WINDOW_START) (loaded_len instr) reg m.registers n.registers) (others : n ≡ record m { registers = n.registers })
+    (puts : PutsRead m segments at (loaded_len instr) reg m.registers n.registers) (others : n ≡ record m { registers = n.registers })
     (of_first : IsRegister m.registers (rs1_of instr) first) (of_second : IsRegister m.registers (rs2_of instr) second) (raw : AreSetsAt sets m segments) where
   abbrev number : ℕ → ℕ
-  number = number_from m.window (at - WINDOW_START) (loaded_len instr)
+  number i = if nat_lt i (loaded_len instr) then number_at m segments at i else 0
 
   abbrev numbers : List ℕ
   numbers = eight number
 
-  number-in : (i : ℕ) → i < loaded_len instr → number i ≡ slice_index m.window (at - WINDOW_START + i)
-  number-in i h = ap (λ (t : Bool). if t then slice_index m.window (at - WINDOW_START + i) else 0) (lt-ltb i (loaded_len instr) h)
+  number-in : (i : ℕ) → i < loaded_len instr → number i ≡ number_at m segments at i
+  number-in i h = ap (λ (t : Bool). if t then number_at m segments at i else 0) (lt-ltb i (loaded_len instr) h)
 
   number-behind : (i : ℕ) → loaded_len instr ≤ i → number i ≡ 0
-  number-behind i h = ap (λ (t : Bool). if t then slice_index m.window (at - WINDOW_START + i) else 0) (le-ltb i (loaded_len instr) h)
-
-  number-read : (i : ℕ) → slice_index m.window (at - WINDOW_START + i) ≡ number_at m segments at i
-  number-read i = sym (ap (λ (t : Bool). if t then slice_index m.window (at - WINDOW_START + i) else shared_number m.segment segments at i) private)
+  number-behind i h = ap (λ (t : Bool). if t then number_at m segments at i else 0) (le-ltb i (loaded_len instr) h)
 
   set : (i : ℕ) → IsSet sets (number i)
   set i = by_test (nat_lt i (loaded_len instr)) refl
@@ -88,7 +81,7 @@ module _ (sets : Numbered) (linkage : Linkage) (instr : Instr) (before : Cpu) (m
       by_test : (t : Bool) → nat_lt i (loaded_len instr) ≡ t → IsSet sets (number i)
       by_test true e =
           let h = ltb-true i (loaded_len instr) e in
-          subst (IsSet sets) (sym (number-in i h ∙ number-read i)) (raw at i)
+          subst (IsSet sets) (sym (number-in i h)) (raw at i)
       by_test false e = subst (IsSet sets) (sym (number-behind i (ltb-false i (loaded_len instr) e))) empty
 
   index : (i : ℕ) → i < 8 → slice_index numbers i ≡ number i
@@ -104,7 +97,7 @@ module _ (sets : Numbered) (linkage : Linkage) (instr : Instr) (before : Cpu) (m
   is_read : IsRead (accessed instr before) (loaded_len instr) m segments numbers
   is_read = subst (λ (o : Option ℕ). IsRead o (loaded_len instr) m segments numbers) (sym is_at) (record {
     len = refl;
-    bytes = λ k h. let within : k < 8 = omega (arith, h, few) in index k within ∙ number-in k h ∙ number-read k;
+    bytes = λ k h. let within : k < 8 = omega (arith, h, few) in index k within ∙ number-in k h;
     zeros = zeros;
   })
 
@@ -141,23 +134,6 @@ module _ (sets : Numbered) (linkage : Linkage) (instr : Instr) (before : Cpu) (m
     segment = segment-none (accessed instr before) (stored_len instr) numbers m.segment segments (loads-stored linkage instr loads);
     others = others ∙ ap (λ (w : List ℕ). record m { registers = n.registers; window = w }) (sym (ap (λ (k : MemberSets). k.window) others));
   }
-
-both : (a b : Bool) → (a && b) ≡ true → (a ≡ true) × (b ≡ true)
-both true true h = (refl, refl)
-both true false h = cc
-both false b h = cc
-
--- an address of the private window isn't shared
-not-shared : (at : ℕ) → is_private at ≡ true → is_shared at ≡ false
-not-shared at h = by (is_shared at) refl where
-  by : (b : Bool) → is_shared at ≡ b → is_shared at ≡ false
-  by true e =
-      let private = both (nat_le WINDOW_START at) (nat_lt at WINDOW_END) h in
-      let shared = both (nat_le SEGMENT_START at) (nat_lt at SEGMENT_END) e in
-      let below = ltb-true at WINDOW_END private.1 in
-      let above = leb-true SEGMENT_START at shared.0 in
-      absurd (omega arith)
-  by false e = e
 
 -- a register's numbers are those of sets
 register-len : (row : List ℕ) (reg : ℕ) (numbers : List ℕ) → IsRegister row reg numbers → length numbers ≡ 8
@@ -199,11 +175,11 @@ writes-none all row (suc r) i h = by_test (suc r == 0) refl
     by_test true e = let is = eqb-true (suc r) 0 e in absurd (omega (arith, is))
     by_test false e = rw e refl
 
-module _ (sets : Numbered) (linkage : Linkage) (instr : Instr) (before : Cpu) (m n : MemberSets) (segments : Segments) (at : ℕ) (first second : List ℕ)
+module _ (sets : Numbered) (linkage : Linkage) (instr : Instr) (before : Cpu) (m n : MemberSets) (segments written : Segments) (at : ℕ) (first second : List ℕ)
     (empty : IsSet sets 0) (held : AreSetsIn sets m.registers) (stores : MovesStored linkage instr)
     (results : (first second loaded numbers : List ℕ) → AreNumbers sets second → Moves second (stored_len instr) numbers → AreResults sets sets (number_of first second loaded) (operands linkage instr) numbers)
-    (few : stored_len instr ≤ 8) (is_at : accessed instr before ≡ Some at) (private : IsTrue (is_private at))
-    (puts : Puts (at - WINDOW_START) (take (stored_len instr) second) m.window n.window) (others : n ≡ record m { window = n.window })
+    (few : stored_len instr ≤ 8) (is_at : accessed instr before ≡ Some at)
+    (writes_window : WritesWindow at (take (stored_len instr) second) m n) (writes_segment : WritesSegment at (take (stored_len instr) second) m.segment segments written) (others : n ≡ record m { window = n.window })
     (of_first : IsRegister m.registers (rs1_of instr) first) (of_second : IsRegister m.registers (rs2_of instr) second) where
   abbrev len : ℕ
   len = stored_len instr
@@ -237,16 +213,12 @@ module _ (sets : Numbered) (linkage : Linkage) (instr : Instr) (before : Cpu) (m
   }
 
   window : StoresWindow (accessed instr before) (take len filled) m n
-  window =
-      subst (λ (o : Option ℕ). StoresWindow o (take len filled) m n) (sym is_at)
-      (subst (λ (l : List ℕ). StoresWindow (Some at) l m n) (sym filled-take) (subst (λ (t : Bool). ByTest t (Puts (at - WINDOW_START) taken m.window n.window) (n.window ≡ m.window)) (sym private) puts))
+  window = subst (λ (o : Option ℕ). StoresWindow o (take len filled) m n) (sym is_at) (subst (λ (l : List ℕ). WritesWindow at l m n) (sym filled-take) writes_window)
 
-  segment : StoresSegment (accessed instr before) (take len filled) m.segment segments segments
-  segment =
-      subst (λ (o : Option ℕ). StoresSegment o (take len filled) m.segment segments segments) (sym is_at)
-      (subst (λ (t : Bool). ByTest t (WritesHeld at (take len filled) m.segment segments segments) (segments ≡ segments)) (sym (not-shared at private)) refl)
+  segment : StoresSegment (accessed instr before) (take len filled) m.segment segments written
+  segment = subst (λ (o : Option ℕ). StoresSegment o (take len filled) m.segment segments written) (sym is_at) (subst (λ (l : List ℕ). WritesSegment at l m.segment segments written) (sym filled-take) writes_segment)
 
-  pub stored-runs : Runs linkage instr before m n segments segments sets sets
+  pub stored-runs : Runs linkage instr before m n segments written sets sets
   stored-runs = record {
     numbers = filled;
     takes = record {

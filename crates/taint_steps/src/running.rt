@@ -155,10 +155,10 @@ pub fn run(
         clear_register(&mut member.registers, rd(instr));
         return Ok(());
     }
-    if move_loaded(sets, linkage, instr, before, member) {
+    if move_loaded(sets, linkage, instr, before, member, segments) {
         return Ok(());
     }
-    if move_stored(sets, linkage, instr, before, member)? {
+    if move_stored(sets, linkage, instr, before, member, segments)? {
         return Ok(());
     }
     if reads_nothing(instr, before, &member.registers) {

@@ -53,29 +53,26 @@ returns-then-is_silent-clause-runs c =
     c.rd.ensures (silent.apart c.args.before.now) c.registers.ensures.first c.registers.ensures.second
     (c.is_silent.ensures.results c.if-is_silent.true c.registers.result.0.now c.registers.result.1.now nothing) c.clear_register.ensures
 
-pub returns-then-move_loaded-clause-runs : goal.returns-then-move_loaded-clause-runs
-returns-then-move_loaded-clause-runs c = c.move_loaded.ensures.runs c.if-move_loaded.true c.args.segments.now c.requires.memory
-
 -- so it is where no register that is read has a set
 module _ (sets : Numbered) (linkage : Linkage) (instr : Instr) (before : Cpu) (m : MemberSets) (row : List ℕ) (segments : Segments) (first second : List ℕ) (rd : Option ℕ)
     (is_rd : unwrap_or rd 0 ≡ named.rd_of instr) (apart : named.accessed instr before ≡ None)
     (of_first : IsRegister m.registers (named.rs1_of instr) first) (of_second : IsRegister m.registers (named.rs2_of instr) second)
     (law : (linkage : Linkage) (instr : Instr) (first second loaded : List ℕ) → AreEmpty first → AreEmpty second → AreEmpty loaded → AreResults sets sets (number_of first second loaded) (operands linkage instr) nothing) where
-  -- what is told of a member that is the same
-  abbrev Told : MemberSets → Type 0
-  Told n =
+  -- what is told of a member and segments that are the same
+  abbrev Told : MemberSets → Segments → Type 0
+  Told n written =
       ((numbers : List ℕ) → IsRegister n.registers (named.rs1_of instr) numbers → AreEmpty numbers) → ((numbers : List ℕ) → IsRegister n.registers (named.rs2_of instr) numbers → AreEmpty numbers)
-      → WritesRegister (unwrap_or rd 0) nothing n.registers row → Runs linkage instr before m (record n { registers = row }) segments segments sets sets
+      → WritesRegister (unwrap_or rd 0) nothing n.registers row → Runs linkage instr before m (record n { registers = row }) segments written sets sets
 
-  kept-cleared : (n : MemberSets) → n ≡ m → Told n
-  kept-cleared n e = subst Told (sym e) (λ none_first none_second writes.
+  kept-cleared : (n : MemberSets) (written : Segments) → n ≡ m → written ≡ segments → Told n written
+  kept-cleared n written e same = subst (λ k. Told k written) (sym e) (subst (Told m) (sym same) (λ none_first none_second writes.
       cleared sets linkage instr before m row segments first second rd is_rd apart of_first of_second
-      (law linkage instr first second nothing (none_first first of_first) (none_second second of_second) all-zero) writes)
+      (law linkage instr first second nothing (none_first first of_first) (none_second second of_second) all-zero) writes))
 
 pub returns-then-reads_nothing-clause-runs : goal.returns-then-reads_nothing-clause-runs
 returns-then-reads_nothing-clause-runs c =
     let told = c.if-reads_nothing.true in
     kept-cleared c.args.sets.now c.args.linkage c.args.instr.now c.args.before.now c.args.member.now c.clear_register-then-reads_nothing.new.row c.args.segments.now c.registers.result.0.now c.registers.result.1.now
     c.rd-then-reads_nothing.result c.rd-then-reads_nothing.ensures (c.reads_nothing.ensures.apart told) c.registers.ensures.first c.registers.ensures.second c.takes_nothing.ensures
-    c.move_stored.new.member (c.in_ok-move_stored.ensures.kept c.if-branch.false ∙ c.move_loaded.ensures.kept c.if-move_loaded.false)
+    c.move_stored.new.member c.move_stored.new.segments (c.in_ok-move_stored.ensures.member c.if-branch.false ∙ c.move_loaded.ensures.kept c.if-move_loaded.false) (c.in_ok-move_stored.ensures.segments c.if-branch.false)
     (c.reads_nothing.ensures.first told) (c.reads_nothing.ensures.second told) c.clear_register-then-reads_nothing.ensures
