@@ -185,6 +185,7 @@ pub fn set_number(
             kept[at] = number;
             Ok(())
         }
+        Page::Absent if number == unset_at(unset, base, at) => Ok(()),
         _ => set_apart(alloc, unset, base, page, at, number),
     }
 }
@@ -348,6 +349,7 @@ pub fn put_numbers(
             overwrite(kept, at, numbers);
             Ok(())
         }
+        Page::Absent if have_unset(unset, base, at, numbers) => Ok(()),
         _ => put_apart(alloc, unset, base, page, at, numbers),
     }
 }
