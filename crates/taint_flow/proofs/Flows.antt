@@ -71,13 +71,14 @@ module _ (sets : Numbered) (first second loaded : List ℕ) (is_set : IsSet sets
       → ((i : ℕ) → i < byte_count → taken i ≡ taken_if (nat_lt i count) (operand i)) → Moves numbers count moved → AreResults sets sets (number_of first second loaded) taken moved
   moved-by moved operand taken numbers count h1 h2 h3 h4 = grind (arith, nat_tests, ltb-false, ltb-true, takes-nothing, takes-one)
 
--- loaded bytes, and their sign behind them
-within-count : (width byte : ℕ) → IsWidth width → byte < byte_count → within_width width byte < byte_count
+-- no byte reaches beyond the register
+pub within-count : (width byte : ℕ) → IsWidth width → byte < byte_count → within_width width byte < byte_count
 within-count width byte is h = by (nat_lt byte width) where
   by : (t : Bool) → (if t then byte else width - 1) < byte_count
   by true = h
   by false = omega (arith, is.0, is.1)
 
+-- loaded bytes, and their sign behind them
 pub extended-by : (sets : Numbered) (first second loaded : List ℕ) (taken : ℕ → List Operand) (width : ℕ) → IsWidth width → ((i : ℕ) → taken i ≡ Loaded (within_width width i) ∷ []) → (extended : List ℕ) → AreNumbers sets loaded
     → Extends loaded width extended → AreResults sets sets (number_of first second loaded) taken extended
 extended-by sets first second loaded taken width is table extended numbers extends = record {

@@ -73,7 +73,7 @@ takes-same old new number taken other set forth back t = record {
   );
 }
 
-first-more : (operand : ℕ → Operand) (n : ℕ) → first_bytes operand n ++ operand n ∷ [] ≡ first_bytes operand (n + 1)
+pub first-more : (operand : ℕ → Operand) (n : ℕ) → first_bytes operand n ++ operand n ∷ [] ≡ first_bytes operand (n + 1)
 first-more operand n = sym (map-append operand (below n) (n ∷ [])) ∙ ap (first_bytes operand) (let next : suc n ≡ n + 1 = omega arith in next)
 
 -- the last of the first bytes

@@ -1,4 +1,5 @@
 mod Bytes
+mod Even
 mod Flows
 mod Grown
 mod Operands

@@ -1,3 +1,4 @@
+pub mod Even
 pub mod Flow
 pub mod Gathered
 pub mod Names

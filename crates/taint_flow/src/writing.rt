@@ -1,9 +1,10 @@
 // The sets of an instruction's result.
-ghost use Rattle.std.specs.Prelude.{◌≡◌, ◌↔◌, ℕ, List, [], IfOk, IsTrue, length, replicate};
+ghost use Rattle.std.specs.Prelude.{◌≡◌, ◌↔◌, ◌<◌, ℕ, List, [], IfOk, IfSome, IsTrue, length, replicate};
 ghost use Rattle.rv64_isa.specs.declared.instruction.Instr.{Instr as AnyInstr};
 ghost use Rattle.rv64_model.specs.declared.linkage.Linkage.{Linkage as AnyLinkage};
-ghost use Rattle.rv64_model.specs.Carries.{operands};
-ghost use Rattle.taint_spans.specs.Numbered.{IsSet, StandAsBefore, members_of};
+ghost use Rattle.rv64_model.specs.Carries.{Operand, operands};
+ghost use Rattle.taint_spans.specs.Numbered.{IsSet, Numbered, StandAsBefore, members_of};
+ghost use Rattle.taint_flow.specs.Even.{HaveOne, HaveTwo};
 ghost use Rattle.taint_flow.specs.Flow.{Extends, IsFlow, IsWidth, Moves};
 ghost use Rattle.taint_flow.specs.Gathered.{AreNumbers, byte_count, number_of};
 ghost use Rattle.taint_flow.specs.Results.{AreResults};
@@ -68,6 +69,46 @@ fn is_empty(numbers: &[u32]) -> bool
     numbers.iter().all(|number| *number == 0)
 }
 
+// The set that all bytes of a register have, where they have one.
+#[inline(always)]
+fn one_set(numbers: &[u32]) -> Option<u32>
+    requires { length numbers.now ≡ byte_count }
+    ensures { IfSome result (λ set. HaveOne numbers.now set) }
+{
+    let set = numbers[0];
+    if numbers.iter().all(|number| *number == set) {
+        Some(set)
+    } else {
+        None
+    }
+}
+
+// The two sets that each byte of a result is worked out from, where its registers have one set each. They are the same where it is
+// worked out from one register.
+#[inline(always)]
+fn one_each(flow: Flow, first: &[u32], second: &[u32]) -> Option<(u32, u32)>
+    requires first { length first.now ≡ byte_count }
+    requires second { length second.now ≡ byte_count }
+    ensures sets { (sets : Numbered) → AreNumbers sets first.now → AreNumbers sets second.now →
+        IfSome result (λ two. IsSet sets two.0 × IsSet sets two.1) }
+    ensures taken { (taken : ℕ → List Operand) (loaded : List ℕ) → IsFlow flow taken →
+        IfSome result (λ two. (byte : ℕ) → byte < byte_count →
+        HaveTwo (number_of first.now second.now loaded) (taken byte) two.0 two.1) }
+{
+    match flow {
+        Flow::Rising(_) | Flow::Whole(_) => {
+            let set = one_set(first)?;
+            Some((set, set))
+        }
+        Flow::Carried(_) | Flow::Bytewise => {
+            let left = one_set(first)?;
+            let right = one_set(second)?;
+            Some((left, right))
+        }
+        _ => None,
+    }
+}
+
 // The same of any instruction. Bytes that take the same share their set. It gets the instruction by value, so that
 // that of the caller needs no place in memory.
 #[inline(never)]
@@ -118,14 +159,16 @@ fn worked(
         (number_of first.now second.now loaded.now) (operands linkage instr.now)) }
     ensures before { StandAsBefore sets.old sets.new }
 {
-    if is_empty(first) && is_empty(second) && is_empty(loaded) {
-        return Ok(none(sets));
+    if let Some((left, right)) = one_each(flow, first, second) {
+        let set = sets.unite(left, right)?;
+        return Ok([set; 8]);
     }
     match flow {
         Flow::Rising(width) => rising(sets, first, width),
         Flow::Carried(width) => carried(sets, first, second, width),
         Flow::Whole(width) => whole(sets, first, width),
         Flow::Bytewise => bytewise(sets, first, second),
+        _ if is_empty(first) && is_empty(second) && is_empty(loaded) => Ok(none(sets)),
         _ => mixed(sets, linkage, *instr, first, second, loaded),
     }
 }

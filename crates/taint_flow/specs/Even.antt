@@ -1,0 +1,20 @@
+-- Bytes that share a set.
+use Rattle.std.specs.Prelude.{◌≡◌, ◌⊎◌, ℕ, ◌<◌, List, slice_index, Contains}
+use Rattle.rv64_model.specs.Carries.{Operand}
+use Rattle.taint_flow.specs.Gathered.{byte_count}
+
+-- all bytes of a register have one set
+abbrev pub HaveOne : List ℕ → ℕ → Type 0
+HaveOne numbers set = (byte : ℕ) → byte < byte_count → slice_index numbers byte ≡ set
+
+-- one of these operands has the set
+pub record HasSet (number : Operand → ℕ) (operands : List Operand) (set : ℕ) : Type 0 where
+  pub operand : Operand
+  pub named : Contains operands operand
+  pub same : number operand ≡ set
+
+-- each of these operands has one of two sets, and each of the two is that of one
+pub record HaveTwo (number : Operand → ℕ) (operands : List Operand) (left right : ℕ) : Type 0 where
+  pub each : (operand : Operand) → Contains operands operand → (number operand ≡ left) ⊎ (number operand ≡ right)
+  pub some_left : HasSet number operands left
+  pub some_right : HasSet number operands right
