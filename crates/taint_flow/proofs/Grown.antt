@@ -1,5 +1,5 @@
 -- How the set of an operation's byte grows.
-use Rattle.std.proofs.Common.{◌≡◌, inl, inr, ℕ, suc, ◌+◌, ◌-◌, ◌<◌, ◌≤◌, if◌then◌else◌, List, [], ◌∷◌, ◌++◌, Contains, sym, ap, subst, ◌∙◌, arith}
+use Rattle.std.proofs.Common.{◌≡◌, inl, inr, ℕ, zero, suc, ◌+◌, ◌-◌, ◌<◌, ◌≤◌, if◌then◌else◌, List, [], ◌∷◌, ◌++◌, Contains, sym, ap, subst, ◌∙◌, arith}
 use Rattle.std.proofs.lemmas.Bool.Decides.{nat_tests}
 use Rattle.std.proofs.lemmas.Bool.{ltb-true, lt-ltb}
 use Rattle.std.proofs.lemmas.List.{map-append}
@@ -82,6 +82,19 @@ last-of operand n some =
     let next : n - 1 + 1 ≡ n = omega arith in
     subst (λ m. Contains (first_bytes operand m) (operand (n - 1))) next
     (subst (λ l. Contains l (operand (n - 1))) (first-more operand (n - 1)) (Contains-push (first_bytes operand (n - 1)) (operand (n - 1))))
+
+-- the lowest of the first bytes
+lowest-of-next : (operand : ℕ → Operand) (n : ℕ) → Contains (first_bytes operand (suc n)) (operand 0)
+lowest-of-next operand zero = Contains-push [] (operand 0)
+lowest-of-next operand (suc n) =
+    let next : suc n + 1 ≡ suc (suc n) = omega arith in
+    subst (λ l. Contains l (operand 0)) (first-more operand (suc n) ∙ ap (first_bytes operand) next)
+    (Contains-append_left (first_bytes operand (suc n)) (operand (suc n) ∷ []) (operand 0) (lowest-of-next operand n))
+
+pub lowest-of : (operand : ℕ → Operand) (n : ℕ) → 0 < n → Contains (first_bytes operand n) (operand 0)
+lowest-of operand n some =
+    let next : suc (n - 1) ≡ n = omega arith in
+    subst (λ m. Contains (first_bytes operand m) (operand 0)) next (lowest-of-next operand (n - 1))
 
 pub lefts-more : (old new : Numbered) (number : Operand → ℕ) (n set : ℕ) → TakesOperands old new number (first_bytes Left n ++ Left n ∷ []) set → TakesOperands old new number (first_bytes Left (n + 1)) set
 lefts-more old new number n set = subst (λ l. TakesOperands old new number l set) (first-more Left n)

@@ -4,7 +4,7 @@ ghost use Rattle.rv64_isa.specs.declared.instruction.Instr.{Instr as AnyInstr};
 ghost use Rattle.rv64_model.specs.declared.linkage.Linkage.{Linkage as AnyLinkage};
 ghost use Rattle.rv64_model.specs.Carries.{Operand, operands};
 ghost use Rattle.taint_spans.specs.Numbered.{IsSet, Numbered, StandAsBefore, members_of};
-ghost use Rattle.taint_flow.specs.Even.{HaveOne, HaveTwo};
+ghost use Rattle.taint_flow.specs.Even.{HaveLow, HaveOne, HaveTwo};
 ghost use Rattle.taint_flow.specs.Flow.{Extends, IsFlow, IsWidth, Moves};
 ghost use Rattle.taint_flow.specs.Gathered.{AreNumbers, byte_count, number_of};
 ghost use Rattle.taint_flow.specs.Results.{AreResults};
@@ -83,8 +83,24 @@ fn one_set(numbers: &[u32]) -> Option<u32>
     }
 }
 
+// The set that the lowest byte of a register has, where each other byte has that or none, as with a
+// byte that was loaded and has no sign.
+#[inline(always)]
+fn low_set(numbers: &[u32]) -> Option<u32>
+    requires { length numbers.now ≡ byte_count }
+    ensures { IfSome result (λ set. HaveLow numbers.now set) }
+{
+    let set = numbers[0];
+    if numbers.iter().all(|number| *number == set || *number == 0) {
+        Some(set)
+    } else {
+        None
+    }
+}
+
 // The two sets that each byte of a result is worked out from, where its registers have one set each. They are the same where it is
-// worked out from one register.
+// worked out from one register. Where the lowest byte of a register is always among what is taken,
+// it is enough that each other byte has its set or none.
 #[inline(always)]
 fn one_each(flow: Flow, first: &[u32], second: &[u32]) -> Option<(u32, u32)>
     requires first { length first.now ≡ byte_count }
@@ -97,10 +113,15 @@ fn one_each(flow: Flow, first: &[u32], second: &[u32]) -> Option<(u32, u32)>
 {
     match flow {
         Flow::Rising(_) | Flow::Whole(_) => {
-            let set = one_set(first)?;
+            let set = low_set(first)?;
             Some((set, set))
         }
-        Flow::Carried(_) | Flow::Bytewise => {
+        Flow::Carried(_) => {
+            let left = low_set(first)?;
+            let right = low_set(second)?;
+            Some((left, right))
+        }
+        Flow::Bytewise => {
             let left = one_set(first)?;
             let right = one_set(second)?;
             Some((left, right))
@@ -160,6 +181,7 @@ fn worked(
     ensures before { StandAsBefore sets.old sets.new }
 {
     if let Some((left, right)) = one_each(flow, first, second) {
+        let _ = sets.empty();
         let set = sets.unite(left, right)?;
         return Ok([set; 8]);
     }

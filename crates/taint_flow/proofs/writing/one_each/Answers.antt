@@ -6,19 +6,20 @@ pub returns-in_ok-set-in-Rising-clause-taken : goal.returns-in_ok-set-in-Rising-
 returns-in_ok-set-in-Rising-clause-taken c taken loaded is byte below =
     let first = c.args.first.now in
     let second = c.args.second.now in
-    let one = c.in_ok-set-in-Rising in
+    let low = c.in_ok-set-in-Rising in
     elim c.in-Rising.is [
-      | inl rising ↦ rising-two first second loaded c.args.flow taken is one.set one.ensures rising.0 rising.1 byte below
-      | inr whole ↦ whole-two first second loaded c.args.flow taken is one.set one.ensures whole.0 whole.1 byte below
+      | inl rising ↦ rising-two first second loaded c.args.flow taken is low.set rising.0 low.ensures rising.1 byte below
+      | inr whole ↦ whole-two first second loaded c.args.flow taken is low.set whole.0 low.ensures whole.1 byte below
     ]
 
 pub returns-in_ok-right-in-Carried-clause-taken : goal.returns-in_ok-right-in-Carried-clause-taken
 returns-in_ok-right-in-Carried-clause-taken c taken loaded is byte below =
-    let first = c.args.first.now in
-    let second = c.args.second.now in
     let left = c.in_ok-left-in-Carried in
     let right = c.in_ok-right-in-Carried in
-    elim c.in-Carried.is [
-      | inl carried ↦ carried-two first second loaded c.args.flow taken is left.left left.ensures right.right right.ensures carried.0 carried.1 byte below
-      | inr bytewise ↦ bytewise-two first second loaded c.args.flow taken is left.left left.ensures right.right right.ensures bytewise byte below
-    ]
+    carried-two c.args.first.now c.args.second.now loaded c.args.flow taken is left.left right.right c.in-Carried.field-0 left.ensures right.ensures c.in-Carried.is byte below
+
+pub returns-in_ok-right-in-Bytewise-clause-taken : goal.returns-in_ok-right-in-Bytewise-clause-taken
+returns-in_ok-right-in-Bytewise-clause-taken c taken loaded is byte below =
+    let left = c.in_ok-left-in-Bytewise in
+    let right = c.in_ok-right-in-Bytewise in
+    bytewise-two c.args.first.now c.args.second.now loaded c.args.flow taken is left.left right.right left.ensures right.ensures c.in-Bytewise.is byte below

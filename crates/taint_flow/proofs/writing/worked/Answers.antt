@@ -1,5 +1,6 @@
-use Rattle.std.proofs.Common.{◌++◌}
+use Rattle.std.proofs.Common.{◌++◌, ap, sym, ◌∙◌}
 use Rattle.rv64_model.specs.Carries.{Left, Right, both, first_bytes, operands}
+use Rattle.taint_spans.specs.Numbered.{members_of}
 use Rattle.taint_flow.specs.Flow.{reach}
 use Rattle.taint_flow.specs.Gathered.{number_of}
 use Rattle.taint_flow.proofs.Even.{all-alike}
@@ -10,7 +11,7 @@ pub returns-in-Some-clause-results : goal.returns-in-Some-clause-results
 returns-in-Some-clause-results c =
     let taken = operands c.args.linkage c.args.instr.now in
     all-alike c.args.sets.now c.unite.new.self (number_of c.args.first.now c.args.second.now c.args.loaded.now) taken c.in-Some.left c.in-Some.right c.in_ok-set.set
-    (c.in-Some.ensures.taken taken c.args.loaded.now c.requires.flow) c.in_ok-set.ensures.set c.in_ok-set.ensures.members
+    (ap (members_of c.args.sets.now) (sym c.empty.ensures.zero) ∙ c.empty.ensures.empty) (c.in-Some.ensures.taken taken c.args.loaded.now c.requires.flow) c.in_ok-set.ensures.set c.in_ok-set.ensures.members
 
 pub returns-in-Rising-clause-results : goal.returns-in-Rising-clause-results
 returns-in-Rising-clause-results c =
