@@ -12,7 +12,7 @@ use rows::{
     AHEAD, After, BAD_STORES, BEHIND, BRANCHES, FIRST, HERE, LOADS, OPERATIONS, OTHERS, SECOND,
     STORED, STORES,
 };
-use rv64_core::{Outcome, Prospect, execute, is_at_call, next_instr, step};
+use rv64_core::{Decoder, Outcome, Prospect, execute, is_at_call, next_instr, step, step_with};
 use rv64_isa::{Instr, decode};
 use std::alloc::{AllocError, Global};
 use std::marker::Brand;
@@ -31,6 +31,34 @@ fn step_counted<L: Ledger>(cpu: &mut Cpu, memory: &mut Flat, blank: Blank) -> Ou
 
 fn step_once(cpu: &mut Cpu, memory: &mut Flat) -> Outcome {
     step_counted::<Brand>(cpu, memory, Blank::new(1))
+}
+
+fn remember_counted<L: Ledger>(
+    cpu: &mut Cpu,
+    memory: &mut Flat,
+    decoder: &mut Decoder,
+    blank: Blank,
+) -> Outcome
+    requires name { blank.name ≡ L.name }
+    requires parts { blank.parts ≡ L.parts }
+    requires some { 0 < blank.parts }
+{
+    let mut steps = Steps::<L>::new(blank);
+    step_with(cpu, memory, decoder, &mut steps)
+}
+
+// One step with a decoder, which remembers the word.
+fn step_remembered(cpu: &mut Cpu, memory: &mut Flat, decoder: &mut Decoder) -> Outcome {
+    remember_counted::<Brand>(cpu, memory, decoder, Blank::new(1))
+}
+
+// A decoder with memory for words.
+fn ready_decoder(alloc: Global) -> Result<Decoder, AllocError> {
+    let mut decoder = Decoder::new(alloc);
+    match decoder.make_room() {
+        Ok(()) => Ok(decoder),
+        Err(NoMemory) => Err(AllocError),
+    }
 }
 
 fn look_counted<M: Memory, L: Ledger>(cpu: &Cpu, memory: &M, blank: Blank) -> Prospect
@@ -209,14 +237,21 @@ fn a_store_without_memory_may_be_tried_again(rt: HostRuntime) -> Result<(), Fail
 
 #[test]
 fn a_store_may_write_the_next_instruction(rt: HostRuntime) -> Result<(), Fail> {
-    // sw x7, 4(x6), and then addi x5, x0, 11 in the place of an ecall.
+    // sw x7, 4(x6), and then addi x5, x0, 11 in the place of an ecall, which was decoded before.
     let mut memory = Flat::of_words(rt.alloc(), 0x1_0000, &[0x0073_2223, 0x0000_0073])?;
+    let mut decoder = ready_decoder(rt.alloc())?;
     let mut cpu = holding(0, 0x1_0000, 0x00b0_0293);
     let mut after = cpu;
     set(&mut after, 5, 11);
     after.pc = 0x1_0008;
-    assert_same(&rt, step_once(&mut cpu, &mut memory), Outcome::Next);
-    assert_same(&rt, step_once(&mut cpu, &mut memory), Outcome::Next);
+    let mut at_call = cpu;
+    at_call.pc = 0x1_0004;
+    let came = step_remembered(&mut at_call, &mut memory, &mut decoder);
+    assert_same(&rt, came, Outcome::Call);
+    for _ in 0..2 {
+        let came = step_remembered(&mut cpu, &mut memory, &mut decoder);
+        assert_same(&rt, came, Outcome::Next);
+    }
     assert_same(&rt, cpu, after);
     Ok(())
 }

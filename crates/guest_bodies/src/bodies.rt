@@ -25,7 +25,7 @@ use acts_model::Observer;
 use arn_base::{BadAddress, Blocks, Bytes, Cpu, NoMemory, Start, Steps};
 use guest_mem::{Segment, Spare};
 use parts_model::limits::MOST_BLOCK_BYTES;
-use rv64_core::{Outcome, Prospect};
+use rv64_core::{Decoder, Outcome, Prospect};
 use std::alloc::Global;
 use std::marker::Model;
 use std::sync::ledger::Ledger;
@@ -36,6 +36,7 @@ pub struct Bodies {
     alloc: Global,
     guests: Vec<Option<Guest>>,
     segments: Vec<Option<Segment>>,
+    decoder: Decoder,
 }
 
 impl Model for Bodies {
@@ -58,6 +59,7 @@ impl Bodies {
             alloc,
             guests: Vec::new(alloc),
             segments: Vec::new(alloc),
+            decoder: Decoder::new(alloc),
         }
     }
 
@@ -102,7 +104,7 @@ impl Bodies {
         ensures live { IsLive self.new pid }
     {
         match &mut self.guests[pid as usize] {
-            Some(guest) => held::run(guest, &mut self.segments, count, steps),
+            Some(guest) => held::run(guest, &mut self.segments, count, &mut self.decoder, steps),
             None => unreachable!(),
         }
     }
@@ -388,6 +390,7 @@ impl Bodies {
         ensures err { OnErr result (self.new ≡ self.old) }
     {
         let space = window_of(self.alloc, start.blocks.as_slice())?;
+        self.decoder.make_room()?;
         make_room(&mut self.guests, child)?;
         self.guests[child as usize] = Some(begin(event, start, space));
         Ok(())
@@ -438,6 +441,7 @@ impl Bodies {
         ensures err { OnErr result (self.new ≡ self.old) }
     {
         let first = First::new(self.alloc, file, &[])?;
+        self.decoder.make_room()?;
         make_room(&mut self.guests, 1)?;
         self.guests[1] = Some(boot(event, first));
         Ok(())

@@ -16,7 +16,7 @@ use crate::told;
 use acts_model::Observer;
 use arn_base::{BadAddress, Blocks, Bytes, NoMemory, Steps};
 use guest_mem::{Segment, Spare};
-use rv64_core::{Outcome, Prospect};
+use rv64_core::{Decoder, Outcome, Prospect};
 use std::alloc::Global;
 use std::sync::ledger::Ledger;
 
@@ -106,6 +106,7 @@ pub fn run<L: Ledger>(
     guest: &mut Guest,
     segments: &mut Vec<Option<Segment>>,
     count: u32,
+    decoder: &mut Decoder,
     steps: &mut Steps<L>,
 ) -> Stood
     requires { IfHeld guest.old.segment segments.old.items }
@@ -118,11 +119,17 @@ pub fn run<L: Ledger>(
     match guest.segment {
         Some(_) => {
             lend(guest, segments);
-            let stood = running::run(&mut guest.cpu, &mut guest.memory, count, steps);
+            let stood = running::run(&mut guest.cpu, &mut guest.memory, count, decoder, steps);
             take_back(guest, segments);
             stood
         }
-        None => running::run(&mut guest.cpu, &mut guest.memory.space, count, steps),
+        None => running::run(
+            &mut guest.cpu,
+            &mut guest.memory.space,
+            count,
+            decoder,
+            steps,
+        ),
     }
 }
 

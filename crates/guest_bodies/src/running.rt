@@ -4,7 +4,7 @@ ghost use Rattle.rv64_model.specs.Instruction.{instruction};
 ghost use Rattle.guest_bodies.specs.Running.{LeadsMany, StopsAt, stop_count};
 
 use arn_base::{Cpu, Memory, Steps};
-use rv64_core::{Outcome, step};
+use rv64_core::{Decoder, Outcome, step_with};
 use std::sync::ledger::Ledger;
 
 /// How many instructions ran that the next one follows, and what comes behind them: the next one where
@@ -22,6 +22,7 @@ pub fn run<M: Memory, L: Ledger>(
     cpu: &mut Cpu,
     memory: &mut M,
     count: u32,
+    decoder: &mut Decoder,
     steps: &mut Steps<L>,
 ) -> Stood
     ensures tick { steps.new ≡ steps.old + result.ran + stop_count result.outcome }
@@ -30,7 +31,7 @@ pub fn run<M: Memory, L: Ledger>(
         (instruction cpu.new (M.windows memory.new)) }
 {
     for ran in 0..count {
-        match step(cpu, memory, steps) {
+        match step_with(cpu, memory, decoder, steps) {
             Outcome::Next => {}
             outcome => return Stood { ran, outcome },
         }

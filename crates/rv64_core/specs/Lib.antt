@@ -1,3 +1,4 @@
 pub mod Fetched
 pub mod Outcome
 pub mod Prospect
+pub mod Remembered

@@ -79,9 +79,9 @@ pub(crate) fn take_effect<M: Memory>(instr: &Instr, cpu: &mut Cpu, mem: &mut M) 
     }
 }
 
-/// What an instruction would come to.
+// What an instruction would come to.
 #[inline(always)]
-pub fn look_ahead<M: Memory>(instr: Instr, cpu: &Cpu, mem: &M) -> Prospect
+pub(crate) fn look_ahead<M: Memory>(instr: Instr, cpu: &Cpu, mem: &M) -> Prospect
     ensures { Foretells result cpu.now (executed instr cpu.now (M.windows mem.now)) }
 {
     match instr {

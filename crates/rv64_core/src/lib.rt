@@ -5,6 +5,7 @@
 #![tactic(auto)]
 
 mod accesses;
+mod decoder;
 mod execution;
 mod flow;
 mod outcome;
@@ -12,6 +13,7 @@ mod registers;
 mod stepping;
 mod values;
 
-pub use execution::{accessed, execute, look_ahead};
+pub use decoder::Decoder;
+pub use execution::{accessed, execute};
 pub use outcome::{Outcome, Planned, Prospect};
-pub use stepping::{fetch_instr, is_at_call, next_instr, step};
+pub use stepping::{is_at_call, next_instr, step, step_with};

@@ -6,6 +6,7 @@ ghost use Rattle.rv64_core.specs.Fetched.{instr_at};
 ghost use Rattle.rv64_core.specs.Outcome.{Tells, OnStop};
 ghost use Rattle.rv64_core.specs.Prospect.{Foretells};
 
+use crate::decoder::Decoder;
 use crate::execution::{look_ahead, take_effect};
 use crate::outcome::{Outcome, Prospect};
 use arn_base::{BadAddress, Cpu, Memory, Steps};
@@ -34,10 +35,28 @@ pub fn step<M: Memory, L: Ledger>(cpu: &mut Cpu, mem: &mut M, steps: &mut Steps<
     ensures no_memory { (result ≡ Outcome.NoMemory) → IsTrue (M.wants_memory mem.old) }
 {
     steps.tick();
-    match instr_at_pc(cpu, mem) {
-        Ok(instr) => take_effect(&instr, cpu, mem),
-        Err(status) => Outcome::End(status),
-    }
+    let found = instr_at_pc(cpu, mem);
+    carry_out(found, cpu, mem)
+}
+
+/// The same as `step`, with a decoder that may remember the word.
+#[inline(always)]
+pub fn step_with<M: Memory, L: Ledger>(
+    cpu: &mut Cpu,
+    mem: &mut M,
+    decoder: &mut Decoder,
+    steps: &mut Steps<L>,
+) -> Outcome
+    ensures tick { steps.new ≡ steps.old + 1 }
+    ensures effect { Tells result (instruction cpu.old (M.windows mem.old))
+        cpu.new (M.windows mem.new) }
+    ensures cpu { OnStop result (cpu.new ≡ cpu.old) }
+    ensures memory { OnStop result (M.windows mem.new ≡ M.windows mem.old) }
+    ensures no_memory { (result ≡ Outcome.NoMemory) → IsTrue (M.wants_memory mem.old) }
+{
+    steps.tick();
+    let found = instr_with(cpu, mem, decoder);
+    carry_out(found, cpu, mem)
 }
 
 /// Says what the instruction at pc would come to, and counts it whatever that is. Its jump has a
@@ -49,28 +68,11 @@ pub fn next_instr<M: Memory, L: Ledger>(cpu: &Cpu, mem: &M, steps: &mut Steps<L>
     // It is what the manual gives the instruction.
     ensures effect { Foretells result cpu.now (instruction cpu.now (M.windows mem.now)) }
 {
-    match fetch_instr(cpu, mem, steps) {
+    steps.tick();
+    match instr_at_pc(cpu, mem) {
         Ok(instr) => look_ahead(instr, cpu, mem),
         Err(status) => Prospect::End(status),
     }
-}
-
-/// The instruction at pc, or the status with which its process ends if there is none. It is counted
-/// whatever it is. `next_instr` is this and then `look_ahead`.
-#[inline(always)]
-pub fn fetch_instr<M: Memory, L: Ledger>(
-    cpu: &Cpu,
-    mem: &M,
-    steps: &mut Steps<L>,
-) -> Result<Instr, u8>
-    ensures tick { steps.new ≡ steps.old + 1 }
-    ensures instr { result_ok result ≡ instr_at cpu.now (M.windows mem.now) }
-    ensures ok { IfOk result (λ instr. instruction cpu.now (M.windows mem.now)
-        ≡ executed instr cpu.now (M.windows mem.now)) }
-    ensures err { IfErr result (λ status. instruction cpu.now (M.windows mem.now) ≡ End status) }
-{
-    steps.tick();
-    instr_at_pc(cpu, mem)
 }
 
 /// Whether an ECALL stands at pc. It is not counted.
@@ -80,6 +82,24 @@ pub fn is_at_call<M: Memory>(cpu: &Cpu, mem: &M) -> bool
     match instr_at_pc(cpu, mem) {
         Ok(instr) => instr == Instr::Ecall,
         Err(_) => false,
+    }
+}
+
+// Lets the instruction at pc take effect, if there is one.
+#[inline(always)]
+fn carry_out<M: Memory>(found: Result<Instr, u8>, cpu: &mut Cpu, mem: &mut M) -> Outcome
+    requires ok { IfOk found (λ instr. instruction cpu.old (M.windows mem.old)
+        ≡ executed instr cpu.old (M.windows mem.old)) }
+    requires err { IfErr found (λ status. instruction cpu.old (M.windows mem.old) ≡ End status) }
+    ensures effect { Tells result (instruction cpu.old (M.windows mem.old))
+        cpu.new (M.windows mem.new) }
+    ensures cpu { OnStop result (cpu.new ≡ cpu.old) }
+    ensures memory { OnStop result (M.windows mem.new ≡ M.windows mem.old) }
+    ensures no_memory { (result ≡ Outcome.NoMemory) → IsTrue (M.wants_memory mem.old) }
+{
+    match found {
+        Ok(instr) => take_effect(&instr, cpu, mem),
+        Err(status) => Outcome::End(status),
     }
 }
 
@@ -95,6 +115,23 @@ fn instr_at_pc<M: Memory>(cpu: &Cpu, mem: &M) -> Result<Instr, u8>
         return Err(BAD_ACCESS);
     };
     match decode(word) {
+        Some(instr) => Ok(instr),
+        None => Err(ILLEGAL_INSTRUCTION),
+    }
+}
+
+// The same, with a decoder.
+#[inline(always)]
+fn instr_with<M: Memory>(cpu: &Cpu, mem: &M, decoder: &mut Decoder) -> Result<Instr, u8>
+    ensures instr { result_ok result ≡ instr_at cpu.now (M.windows mem.now) }
+    ensures ok { IfOk result (λ instr. instruction cpu.now (M.windows mem.now)
+        ≡ executed instr cpu.now (M.windows mem.now)) }
+    ensures err { IfErr result (λ status. instruction cpu.now (M.windows mem.now) ≡ End status) }
+{
+    let Ok(word) = fetch(cpu, mem) else {
+        return Err(BAD_ACCESS);
+    };
+    match decoder.instr(cpu.pc, word) {
         Some(instr) => Ok(instr),
         None => Err(ILLEGAL_INSTRUCTION),
     }
