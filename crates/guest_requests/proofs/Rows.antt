@@ -388,6 +388,12 @@ waits-not m pid v (Next instr cpu memory) isnt = refl
 waits-not m pid v Call isnt = absurd (true≢false isnt)
 waits-not m pid v (End status) isnt = refl
 
+-- and at no call that is ready
+pub waits-ready : (m : Machine) (pid : ℕ) (v : View) (e : Effect) → is_waiting (request m pid v) ≡ false → false ≡ waits_at m pid v e
+waits-ready m pid v (Next instr cpu memory) ready = refl
+waits-ready m pid v Call ready = sym ready
+waits-ready m pid v (End status) ready = refl
+
 -- the table of calls
 pub come-to-rows : ComeToRows
 come-to-rows =

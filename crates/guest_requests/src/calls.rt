@@ -3,6 +3,7 @@ ghost use Rattle.std.specs.Prelude.{◌≡◌};
 ghost use Rattle.arn_model.specs.Row.{is_waiting, request};
 ghost use Rattle.arn_model.specs.Step.{waits};
 ghost use Rattle.guest_bodies.specs.Shown.{IsLive};
+ghost use Rattle.guest_requests.specs.Standing.{can_wait};
 ghost use Rattle.guest_requests.specs.Tables.{OfTables};
 
 use crate::accepting::Accepting;
@@ -14,9 +15,28 @@ use crate::waiting::Waiting;
 use crate::writing::Writing;
 use parts_model::calls::{ACCEPT, READ, WAIT, WRITE};
 
+// Whether calls of a number aren't always ready.
+fn can_wait(number: u64) -> bool
+    ensures { result ≡ can_wait number }
+{
+    matches!(number, READ | WRITE | WAIT | ACCEPT)
+}
+
 impl<'a> Tables<'a> {
-    /// Whether a process stands at a call that isn't ready.
+    /// Whether a process stands at a call that isn't ready. Its memory is read only where the number of the call, if it
+    /// stands at one, is that of calls that aren't always ready.
     pub fn waits(&self, pid: u32) -> bool
+        requires { IsLive self.now.guests pid }
+        ensures { OfTables self.now pid (λ m v. result ≡ waits m pid v) }
+    {
+        if !can_wait(call_number(self.bodies, pid)) {
+            return false;
+        }
+        self.waits_there(pid)
+    }
+
+    // The same of any process.
+    fn waits_there(&self, pid: u32) -> bool
         requires { IsLive self.now.guests pid }
         ensures { OfTables self.now pid (λ m v. result ≡ waits m pid v) }
     {
