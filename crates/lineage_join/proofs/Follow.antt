@@ -1,5 +1,5 @@
 -- What waits leads to what its byte is reached by, and so does what is put in its place.
-use Rattle.std.proofs.Common.{◌≡◌, ◌⊎◌, ◌↔◌, ℕ, ◌+◌, ◌*◌, ◌<◌, ◌≤◌, false, List, [], map, flat_map, Contains, Option, Some, None, option_and_then, refl, sym, ap, subst, ◌∙◌, inl, inr, arith}
+use Rattle.std.proofs.Common.{◌≡◌, ◌↔◌, ℕ, ◌+◌, ◌*◌, ◌<◌, ◌≤◌, false, List, [], ◌∷◌, map, flat_map, Contains, Option, Some, None, option_and_then, refl, sym, ap, subst, ◌∙◌, inl, inr, arith}
 use Rattle.std.proofs.lemmas.List.Elements.{All-contains}
 use Rattle.std.proofs.lemmas.Bool.{cond-false}
 use Rattle.arn_base.specs.declared.records.Pair.{Pair}
@@ -19,7 +19,8 @@ use Rattle.lineage_join.specs.declared.wait.Wait.{Wait}
 use Rattle.lineage_join.specs.Fits.{IsThere, Precedes, Fits, AllFit}
 use Rattle.lineage_join.specs.Laws.{reaches}
 use Rattle.lineage_join.specs.Rising.{source_of}
-use Rattle.lineage_join.specs.Waits.{from_taken, from_kind, from_wait, LeadsTo, Leads, kind_by, wait_of, HasBoth, rank, level, IsFollowed, origin_waits}
+use Rattle.lineage_join.specs.Waits.{from_taken, from_kind, from_wait, LeadsTo, Leads, kind_by, wait_of, rank, level, ComesAlso, IsStepped, origin_waits}
+use Rattle.lineage_join.proofs.Comes.{instead, stepped}
 use Rattle.lineage_join.proofs.Earlier.{earlier}
 use Rattle.lineage_join.proofs.Hits.{mapped, unmapped}
 use Rattle.lineage_join.proofs.Keys.{rank-small}
@@ -27,23 +28,6 @@ use Rattle.lineage_join.proofs.Members.{in-flat, from-flat}
 use Rattle.lineage_join.proofs.Rises.{none_in, front, cases}
 use Rattle.lineage_join.proofs.Stands.{item-stands, kind-of-byte}
 use Rattle.lineage_join.proofs.Unfolds.{goes}
-
-both-lead : (from : Wait → List EventByte) (old more new : List Wait) → HasBoth old more new → (p : Pair) → Leads from new p ↔ (Leads from old p ⊎ Leads from more p)
-both-lead from old more new h p = (
-  λ c. elim ((h c.0).0 c.1) [ inl d ↦ inl (c.0, d, c.2) | inr d ↦ inr (c.0, d, c.2) ],
-  λ s. elim s [ inl c ↦ (c.0, (h c.0).1 (inl c.1), c.2) | inr c ↦ (c.0, (h c.0).1 (inr c.1), c.2) ],
-)
-
--- some that wait in the place of one
-followed : (from : Wait → List EventByte) (old more new : List Wait) (w : Wait) → HasBoth old more new → ((p : Pair) → Leads from more p ↔ LeadsTo from w p) → ((v : Wait) → Contains more v → level v < level w) → IsFollowed from old w new
-followed from old more new w h same low =
-    record {
-      leads = λ p. let both = both-lead from old more new h p in (
-        λ c. elim (both.0 c) [ inl d ↦ inl d | inr d ↦ inr ((same p).0 d) ],
-        λ s. elim s [ inl d ↦ both.1 (inl d) | inr d ↦ both.1 (inr ((same p).1 d)) ],
-      );
-      falls = λ v c. elim ((h v).0 c) [ inl d ↦ inl d | inr d ↦ inr (low v d) ];
-    }
 
 module _ (entries : List Record) (items : ℕ → At → List EventByte) (stands : first_broken entries ≡ None) (fit : AllFit entries items) where
   abbrev all : Reaching
@@ -71,13 +55,22 @@ module _ (entries : List Record) (items : ℕ → At → List EventByte) (stands
     | inr d ↦ absurd (none_in v d)
   ]
 
-  pub received-followed : (old new : List Wait) (w : Wait) (e : Record) → w.kind ≡ kind.Received → event_at entries w.event ≡ Some e → is_source e ≡ false → HasBoth old (origin_waits w.byte (origin_of e w.at)) new → IsFollowed from old w new
-  received-followed old new w e k is plain h =
-      let same : from w ≡ from_origin all (origin_of e w.at) =
-      ap (from_kind (event_at entries) all w.event w.at) k ∙ (ap (from_taken all w.event w.at) is ∙ cond-false (is_source e) (source_byte w.event (event_len e) (Byte w.at)) (from_origin all (origin_of e w.at)) plain) in
-      followed from old (origin_waits w.byte (origin_of e w.at)) new w h
-      (λ p. subst (λ (l : List EventByte). Leads from (origin_waits w.byte (origin_of e w.at)) p ↔ ((w.byte ≡ p.byte) × Contains l (source_of p))) (sym same) (origin-leads w.byte (origin_of e w.at) p))
-      (origin-low w (origin_of e w.at) (λ src o. earlier entries stands w.event e is w.at src o))
+  module _ (w : Wait) (e : Record) (k : w.kind ≡ kind.Received) (is : event_at entries w.event ≡ Some e) (plain : is_source e ≡ false) where
+    received-leads : (p : Pair) → Leads from (origin_waits w.byte (origin_of e w.at)) p ↔ LeadsTo from w p
+    received-leads p =
+        let same : from w ≡ from_origin all (origin_of e w.at) =
+        ap (from_kind (event_at entries) all w.event w.at) k ∙ (ap (from_taken all w.event w.at) is ∙ cond-false (is_source e) (source_byte w.event (event_len e) (Byte w.at)) (from_origin all (origin_of e w.at)) plain) in
+        subst (λ (l : List EventByte). Leads from (origin_waits w.byte (origin_of e w.at)) p ↔ ((w.byte ≡ p.byte) × Contains l (source_of p))) (sym same) (origin-leads w.byte (origin_of e w.at) p)
+
+    received-low : (v : Wait) → Contains (origin_waits w.byte (origin_of e w.at)) v → level v < level w
+    received-low = origin-low w (origin_of e w.at) (λ src o. earlier entries stands w.event e is w.at src o)
+
+    module _ (ws vs : List Wait) (ps qs : List Pair) (h : ComesAlso from ws ps (origin_waits w.byte (origin_of e w.at)) vs qs) where
+      pub received-stepped : IsStepped from ws ps w vs qs
+      received-stepped = stepped from ws vs ps qs (origin_waits w.byte (origin_of e w.at)) h w received-leads received-low
+
+      pub received-also : ComesAlso from ws ps (w ∷ []) vs qs
+      received-also = instead from ws vs ps qs (origin_waits w.byte (origin_of e w.at)) h w received-leads (λ v c. let low = received-low v c in omega arith)
 
   -- items
   abbrev waits : ℕ → Item → Wait
@@ -121,8 +114,8 @@ module _ (entries : List Record) (items : ℕ → At → List EventByte) (stands
       ),
     )
 
-    pub items-followed : (old new : List Wait) (e : Record) → from w ≡ all w.event at → 1 ≤ rank w.kind → event_at entries w.event ≡ Some e → is_source e ≡ false → HasBoth old (map (waits w.byte) its) new → IsFollowed from old w new
-    items-followed old new e here high is plain h =
+    pub items-stepped : (ws vs : List Wait) (ps qs : List Pair) (e : Record) → from w ≡ all w.event at → 1 ≤ rank w.kind → event_at entries w.event ≡ Some e → is_source e ≡ false → ComesAlso from ws ps (map (waits w.byte) its) vs qs → IsStepped from ws ps w vs qs
+    items-stepped ws vs ps qs e here high is plain h =
         let by : from w ≡ flat_map (from_item (event_at entries) all) (items w.event at) =
         here ∙ (goes entries items stands fit w.event at ∙ (ap (from_event (event_at entries) all w.event at (items w.event at)) is ∙ cond-false (is_source e) (source_byte w.event (event_len e) at) (flat_map (from_item (event_at entries) all) (items w.event at)) plain)) in
-        followed from old (map (waits w.byte) its) new w h (items-lead by) (items-low high)
+        stepped from ws vs ps qs (map (waits w.byte) its) h w (items-lead by) (items-low high)

@@ -6,6 +6,7 @@ pub mod Keys
 pub mod Records
 pub mod Hits
 pub mod Members
+pub mod Comes
 pub mod Stands
 pub mod Follow
 pub mod Steps

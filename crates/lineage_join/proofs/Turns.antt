@@ -15,7 +15,7 @@ use Rattle.lineage_join.specs.Asked.{AreAsked, asked_byte, asked_sources}
 use Rattle.lineage_join.specs.Laws.{reaches}
 use Rattle.lineage_join.specs.Places.{at_of}
 use Rattle.lineage_join.specs.Rising.{source_of}
-use Rattle.lineage_join.specs.Waits.{from_kind, from_wait, HasBoth, LeadsTo, Leads, Comes, AreFound, IsNumbered, IsTaken, IsStepped, demanded, kind_of, number_of, level, code, room}
+use Rattle.lineage_join.specs.Waits.{from_kind, from_wait, LeadsTo, Leads, Comes, ComesAlso, AreFound, IsNumbered, IsTaken, IsStepped, demanded, kind_of, number_of, level, code, room}
 use Rattle.lineage_join.proofs.Hits.{mapped, unmapped}
 use Rattle.lineage_join.proofs.Keys.{room-le, room-has}
 use Rattle.lineage_join.proofs.Rises.{none_in}
@@ -80,23 +80,24 @@ module _ (entries : List Record) (items : ℕ → At → List EventByte) where
   demand-byte (demand.Item item byte) = refl
 
   -- what is found from what is asked for is what was asked for
-  pub asked : (ds : List Demand) (ws : List Wait) (ps : List Pair) → HasBoth [] (map (demanded (event_at entries)) ds) ws → AreFound from-all ws [] ps → AreAsked (event_at entries) (reaches entries items) ds ps
-  asked ds ws ps both found p = (
-    λ c. elim ((found p).0 c) [
-      | inl d ↦ absurd (none_in p d)
-      | inr l ↦ elim ((both l.0).0 l.1) [
-        | inl d ↦ absurd (none_in l.0 d)
-        | inr d ↦ let u = unmapped (demanded (event_at entries)) ds l.0 d in (
-          u.0,
-          u.1,
-          demand-byte u.0 ∙ (ap (λ (w : Wait). w.byte) u.2 ∙ l.2.0),
-          subst (λ (bytes : List EventByte). Contains bytes (source_of p)) (sym (ap from-all u.2) ∙ demand-from u.0) l.2.1,
-        )
-      ]
+  pub asked : (ds : List Demand) (ws : List Wait) (ps qs : List Pair) → ComesAlso from-all [] [] (map (demanded (event_at entries)) ds) ws ps → AreFound from-all ws ps qs → AreAsked (event_at entries) (reaches entries items) ds qs
+  asked ds ws ps qs also found p = (
+    λ c. elim ((also.comes p).0 ((found p).0 c)) [
+      | inl d ↦ elim d [ inl x ↦ absurd (none_in p x) | inr l ↦ absurd (none_in l.0 l.1) ]
+      | inr l ↦ let u = unmapped (demanded (event_at entries)) ds l.0 l.1 in (
+        u.0,
+        u.1,
+        demand-byte u.0 ∙ (ap (λ (w : Wait). w.byte) u.2 ∙ l.2.0),
+        subst (λ (bytes : List EventByte). Contains bytes (source_of p)) (sym (ap from-all u.2) ∙ demand-from u.0) l.2.1,
+      )
     ],
-    λ s. (found p).1 (inr (
+    λ s. (found p).1 ((also.comes p).1 (inr (
       demanded (event_at entries) s.0,
-      (both (demanded (event_at entries) s.0)).1 (inr (mapped (demanded (event_at entries)) ds s.0 s.1)),
+      mapped (demanded (event_at entries)) ds s.0 s.1,
       (sym (demand-byte s.0) ∙ s.2, subst (λ (bytes : List EventByte). Contains bytes (source_of p)) (sym (demand-from s.0)) s.3),
-    )),
+    ))),
   )
+
+  -- whatever the order
+  pub same-asked : (ds : List Demand) (ps qs : List Pair) → ((p : Pair) → Contains qs p ↔ Contains ps p) → AreAsked (event_at entries) (reaches entries items) ds ps → AreAsked (event_at entries) (reaches entries items) ds qs
+  same-asked ds ps qs same are p = (λ c. (are p).0 ((same p).0 c), λ s. (same p).1 ((are p).1 s))

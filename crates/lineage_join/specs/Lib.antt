@@ -3,6 +3,7 @@ pub mod Rising
 pub mod Laws
 pub mod Places
 pub mod Waits
+pub mod Added
 pub mod Hits
 pub mod Asked
 pub mod Alike

@@ -1,5 +1,5 @@
 -- What is still to be followed, and which pairs it leads to.
-use Rattle.std.specs.Prelude.{◌≡◌, ◌⊎◌, ◌↔◌, ℕ, ◌+◌, ◌*◌, ◌<◌, ◌^◌, max, List, [], ◌∷◌, Contains, Option, Some, None, if◌then◌else◌, option_and_then}
+use Rattle.std.specs.Prelude.{◌≡◌, ◌⊎◌, ◌↔◌, ℕ, ◌+◌, ◌*◌, ◌<◌, ◌≤◌, ◌^◌, max, List, [], ◌∷◌, Contains, Option, Some, None, if◌then◌else◌, option_and_then}
 use Rattle.arn_base.specs.declared.records.Pair.{Pair}
 use Rattle.arn_base.specs.declared.records.Record.{Record}
 use Rattle.arn_base.specs.declared.records.Src.{Src}
@@ -60,10 +60,6 @@ wait_of event_at byte item =
 abbrev pub HasAlso : {X : Type 0} → List X → X → List X → Type 0
 HasAlso {X} old more new = (x : X) → Contains new x ↔ (Contains old x ⊎ (more ≡ x))
 
--- these members, and those
-abbrev pub HasBoth : {X : Type 0} → List X → List X → List X → Type 0
-HasBoth {X} old more new = (x : X) → Contains new x ↔ (Contains old x ⊎ Contains more x)
-
 -- kinds and numbers fall as one follows
 abbrev pub rank : Kind → ℕ
 rank kind.Received = 0
@@ -92,11 +88,6 @@ pub record IsTaken (old : List Wait) (wait : Wait) (new : List Wait) : Type 0 wh
   pub members : HasAlso new wait old
   pub below : (other : Wait) → Contains new other → code other < code wait
 
--- all that led to pairs still does, and what this led to is led to by others of lower levels
-pub record IsFollowed (from : Wait → List EventByte) (old : List Wait) (wait : Wait) (new : List Wait) : Type 0 where
-  pub leads : (pair : Pair) → Leads from new pair ↔ (Leads from old pair ⊎ LeadsTo from wait pair)
-  pub falls : (other : Wait) → Contains new other → Contains old other ⊎ (level other < level wait)
-
 -- where the byte is a copy of another, that waits
 abbrev pub origin_waits : ℕ → Option Src → List Wait
 origin_waits byte None = []
@@ -114,6 +105,15 @@ Comes from waiting found pair = Contains found pair ⊎ Leads from waiting pair
 pub record IsStepped (from : Wait → List EventByte) (waiting : List Wait) (found : List Pair) (wait : Wait) (then_waiting : List Wait) (then_found : List Pair) : Type 0 where
   pub comes : (pair : Pair) → Comes from then_waiting then_found pair ↔ (Comes from waiting found pair ⊎ LeadsTo from wait pair)
   pub falls : (other : Wait) → Contains then_waiting other → Contains waiting other ⊎ (level other < level wait)
+
+-- it is no later than one of some
+abbrev pub IsWithin : List Wait → Wait → Type 0
+IsWithin waits other = (wait : Wait) × Contains waits wait × (level other ≤ level wait)
+
+-- what came still comes, and what these lead to. What waits besides is no later than these
+pub record ComesAlso (from : Wait → List EventByte) (waiting : List Wait) (found : List Pair) (waits : List Wait) (then_waiting : List Wait) (then_found : List Pair) : Type 0 where
+  pub comes : (pair : Pair) → Comes from then_waiting then_found pair ↔ (Comes from waiting found pair ⊎ Leads from waits pair)
+  pub falls : (other : Wait) → Contains then_waiting other → Contains waiting other ⊎ IsWithin waits other
 
 -- exactly the pairs are found that had come
 abbrev pub AreFound : (Wait → List EventByte) → List Wait → List Pair → List Pair → Type 0

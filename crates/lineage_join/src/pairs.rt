@@ -1,12 +1,13 @@
 // The pairs that are asked for.
-ghost use Rattle.std.specs.Prelude.{All, map, OnOk, IfOk};
+ghost use Rattle.std.specs.Prelude.{[], ◌∷◌, All, map, OnOk, IfOk};
 ghost use Rattle.history_index.specs.Indexes.{Indexes};
 ghost use Rattle.history_model.specs.Events.{event_at};
+ghost use Rattle.lineage_join.specs.Added.{HasAdded};
 ghost use Rattle.lineage_join.specs.Asked.{AreAsked};
 ghost use Rattle.lineage_join.specs.Fits.{AllFit};
 ghost use Rattle.lineage_join.specs.Laws.{reaches};
 ghost use Rattle.lineage_join.specs.Rising.{IsRising};
-ghost use Rattle.lineage_join.specs.Waits.{AreFound, HasAlso, HasBoth, IsNumbered, demanded, from_wait, kind_of, number_of};
+ghost use Rattle.lineage_join.specs.Waits.{AreFound, HasAlso, IsNumbered, demanded, from_wait, kind_of, number_of};
 
 use crate::demand::{Demand, Place};
 use crate::found::Found;
@@ -28,37 +29,40 @@ fn add_place(event: u64, place: Place, byte: u32, waiting: &mut Waiting) -> Resu
     }
 }
 
-/// Lets wait what is asked for.
+/// Adds what is asked for.
 fn add_demand(
     entries: &[Record],
     index: &Index,
     demand: Demand,
     waiting: &mut Waiting,
+    found: &mut Found,
 ) -> Result<(), NoMemory>
-    requires { Indexes index.now entries.now }
-    ensures ok { OnOk result (HasAlso waiting.old (demanded (event_at entries.now) demand) waiting.new) }
-    ensures numbered { All IsNumbered waiting.new }
+    requires indexed { Indexes index.now entries.now }
+    requires numbered { All IsNumbered waiting.old }
+    ensures ok { OnOk result (HasAdded entries.now waiting.old found.old (demanded (event_at entries.now) demand ∷ []) waiting.new found.new) }
+    ensures numbered { OnOk result (All IsNumbered waiting.new) }
 {
     match demand {
         Demand::Event { event, place, byte } => add_place(event, place, byte, waiting),
-        Demand::Item { item, byte } => add_item(entries, index, item, byte, waiting),
+        Demand::Item { item, byte } => add_item(entries, index, item, byte, waiting, found),
     }
 }
 
-/// Lets all wait that is asked for.
+/// Adds all that is asked for.
 fn add_demands(
     entries: &[Record],
     index: &Index,
     demands: &[Demand],
     waiting: &mut Waiting,
+    found: &mut Found,
 ) -> Result<(), NoMemory>
     requires indexed { Indexes index.now entries.now }
     requires numbered { All IsNumbered waiting.old }
-    ensures ok { OnOk result (HasBoth waiting.old (map (demanded (event_at entries.now)) demands.now) waiting.new) }
+    ensures ok { OnOk result (HasAdded entries.now waiting.old found.old (map (demanded (event_at entries.now)) demands.now) waiting.new found.new) }
     ensures numbered { OnOk result (All IsNumbered waiting.new) }
 {
     for demand in demands {
-        add_demand(entries, index, *demand, waiting)?;
+        add_demand(entries, index, *demand, waiting, found)?;
     }
     Ok(())
 }
@@ -99,8 +103,8 @@ pub fn join<P: Locals>(
     ensures rising { IfOk result IsRising }
 {
     let mut waiting = Waiting::new(alloc);
-    add_demands(entries, index, demands, &mut waiting)?;
     let mut found = Found::new(alloc);
+    add_demands(entries, index, demands, &mut waiting, &mut found)?;
     follow_all(alloc, entries, index, locals, &mut waiting, &mut found)?;
     found.pairs(alloc)
 }

@@ -1,14 +1,17 @@
 // One step of the join of groups' answers.
-ghost use Rattle.std.specs.Prelude.{◌≡◌, false, All, map, Some, IfOk, OnOk};
+ghost use Rattle.std.specs.Prelude.{◌≡◌, [], ◌∷◌, false, All, map, option_map, Some, IfOk, OnOk};
+ghost use Rattle.arn_base.specs.declared.records.Src.{Src};
 ghost use Rattle.history_index.specs.Indexes.{Indexes};
 ghost use Rattle.history_model.specs.Events.{event_at};
 ghost use Rattle.lineage_model.specs.Flow.{Byte};
-ghost use Rattle.lineage_model.specs.Joined.{is_source, origin_of, source_byte};
+ghost use Rattle.lineage_model.specs.Joined.{is_source, source_byte};
+ghost use Rattle.lineage_join.specs.declared.wait.Kind.TheVariants as kind;
+ghost use Rattle.lineage_join.specs.Added.{HasAdded};
 ghost use Rattle.lineage_join.specs.Fits.{AllFit};
 ghost use Rattle.taint_state.specs.Shown.{AreItems};
 ghost use Rattle.lineage_join.specs.Laws.{reaches};
 ghost use Rattle.lineage_join.specs.Places.{at_of};
-ghost use Rattle.lineage_join.specs.Waits.{HasAlso, HasBoth, HasPairs, IsFollowed, IsNumbered, IsStepped, from_wait, origin_waits, own_bytes, wait_of};
+ghost use Rattle.lineage_join.specs.Waits.{HasPairs, IsNumbered, IsStepped, from_wait, origin_waits, own_bytes, wait_of};
 
 use crate::demand::Place;
 use crate::found::Found;
@@ -30,49 +33,96 @@ fn keep(found: &mut Found, event: u64, len: u32, at: u64, byte: u32) -> Result<(
     Ok(())
 }
 
-/// Lets an item wait.
+/// Adds a byte that an event shows: one from outside is found, and another waits.
+fn add_shown(
+    entries: &[Record],
+    index: &Index,
+    shown: Item,
+    byte: u32,
+    waiting: &mut Waiting,
+    found: &mut Found,
+) -> Result<(), NoMemory>
+    requires indexed { Indexes index.now entries.now }
+    requires numbered { All IsNumbered waiting.old }
+    ensures ok { OnOk result (HasAdded entries.now waiting.old found.old (record { event = shown.event; kind = kind.Byte; at = shown.at; byte = byte } ∷ []) waiting.new found.new) }
+    ensures numbered { OnOk result (All IsNumbered waiting.new) }
+{
+    if let Some(entry) = told::record_at(entries, index, shown.event) {
+        if told::is_source(entry) {
+            let len = told::len_at(entries, index, entry, shown.event);
+            return keep(found, shown.event, len, shown.at, byte);
+        }
+    }
+    waiting.add(shown.event, Kind::Byte, shown.at, byte)
+}
+
+/// Adds the byte of which a received byte is a copy, if it is one.
+fn add_origin(
+    entries: &[Record],
+    index: &Index,
+    origin: Option<Item>,
+    byte: u32,
+    waiting: &mut Waiting,
+    found: &mut Found,
+) -> Result<(), NoMemory>
+    requires indexed { Indexes index.now entries.now }
+    requires numbered { All IsNumbered waiting.old }
+    ensures ok { OnOk result (HasAdded entries.now waiting.old found.old (origin_waits byte (option_map (λ item. record { event = item.event; at = item.at }) origin)) waiting.new found.new) }
+    ensures numbered { OnOk result (All IsNumbered waiting.new) }
+{
+    match origin {
+        None => Ok(()),
+        Some(shown) => add_shown(entries, index, shown, byte, waiting, found),
+    }
+}
+
+/// Adds an item: a source byte is found, a copy is followed to its origin where that is soon told, and
+/// another byte waits.
 pub fn add_item(
     entries: &[Record],
     index: &Index,
     item: Item,
     byte: u32,
     waiting: &mut Waiting,
+    found: &mut Found,
 ) -> Result<(), NoMemory>
-    requires { Indexes index.now entries.now }
-    ensures ok { OnOk result (HasAlso waiting.old (wait_of (event_at entries.now) byte item) waiting.new) }
-    ensures numbered { All IsNumbered waiting.new }
+    requires indexed { Indexes index.now entries.now }
+    requires numbered { All IsNumbered waiting.old }
+    ensures ok { OnOk result (HasAdded entries.now waiting.old found.old (wait_of (event_at entries.now) byte item ∷ []) waiting.new found.new) }
+    ensures numbered { OnOk result (All IsNumbered waiting.new) }
 {
-    let kind = told::kind_of(entries, index, item.event);
-    waiting.add(item.event, kind, item.at, byte)
+    match told::record_at(entries, index, item.event) {
+        None => Ok(()),
+        Some(entry) => {
+            if told::is_source(entry) {
+                let len = told::len_at(entries, index, entry, item.event);
+                return keep(found, item.event, len, item.at, byte);
+            }
+            if told::has_few_origins(entry) {
+                let origin = told::origin_of(entry, item.at);
+                return add_origin(entries, index, origin, byte, waiting, found);
+            }
+            waiting.add(item.event, told::kind_at(entry), item.at, byte)
+        }
+    }
 }
 
-/// Lets the items of a byte wait.
+/// Adds the items of a byte.
 fn add_items(
     entries: &[Record],
     index: &Index,
     items: &[Item],
     byte: u32,
     waiting: &mut Waiting,
+    found: &mut Found,
 ) -> Result<(), NoMemory>
     requires indexed { Indexes index.now entries.now }
     requires numbered { All IsNumbered waiting.old }
-    ensures ok { OnOk result (HasBoth waiting.old (map (wait_of (event_at entries.now) byte) items.now) waiting.new) }
+    ensures ok { OnOk result (HasAdded entries.now waiting.old found.old (map (wait_of (event_at entries.now) byte) items.now) waiting.new found.new) }
     ensures numbered { OnOk result (All IsNumbered waiting.new) }
 {
     for item in items {
-        add_item(entries, index, *item, byte, waiting)?;
-    }
-    Ok(())
-}
-
-/// Lets the byte wait of which a received byte is a copy.
-fn add_origin(entry: &Record, at: u64, byte: u32, waiting: &mut Waiting) -> Result<(), NoMemory>
-    requires numbered { All IsNumbered waiting.old }
-    ensures ok { OnOk result (HasBoth waiting.old (origin_waits byte (origin_of entry.now at)) waiting.new) }
-    ensures numbered { OnOk result (All IsNumbered waiting.new) }
-{
-    if let Some(origin) = told::origin_of(entry, at) {
-        waiting.add(origin.event, Kind::Byte, origin.at, byte)?;
+        add_item(entries, index, *item, byte, waiting, found)?;
     }
     Ok(())
 }
@@ -100,7 +150,7 @@ fn items_of<P: Locals>(
     locals.items(event, place).to_vec(alloc)
 }
 
-/// Lets that wait for which what waits stands, where its event's bytes didn't come from outside.
+/// Adds that for which what waits stands, where its event's bytes didn't come from outside.
 fn follow<P: Locals>(
     alloc: Global,
     entries: &[Record],
@@ -109,24 +159,28 @@ fn follow<P: Locals>(
     entry: &Record,
     wait: Wait,
     waiting: &mut Waiting,
+    found: &mut Found,
 ) -> Result<(), NoMemory>
     requires indexed { Indexes index.now entries.now }
     requires fit { AllFit entries.now (P.items locals.now) }
     requires there { event_at entries.now wait.event ≡ Some entry.now }
     requires plain { is_source entry.now ≡ false }
     requires numbered { All IsNumbered waiting.old }
-    ensures ok { OnOk result (IsFollowed (from_wait (event_at entries.now) (reaches entries.now (P.items locals.now))) waiting.old wait waiting.new) }
+    ensures ok { OnOk result (IsStepped (from_wait (event_at entries.now) (reaches entries.now (P.items locals.now))) waiting.old found.old wait waiting.new found.new) }
     ensures numbered { OnOk result (All IsNumbered waiting.new) }
 {
     match wait.kind {
-        Kind::Received => add_origin(entry, wait.at, wait.byte, waiting),
+        Kind::Received => {
+            let origin = told::origin_of(entry, wait.at);
+            add_origin(entries, index, origin, wait.byte, waiting, found)
+        }
         Kind::Byte => {
             let items = items_of(alloc, locals, wait.event, Place::Byte(wait.at))?;
-            add_items(entries, index, items.as_slice(), wait.byte, waiting)
+            add_items(entries, index, items.as_slice(), wait.byte, waiting, found)
         }
         Kind::Start => {
             let items = items_of(alloc, locals, wait.event, Place::Start(wait.at))?;
-            add_items(entries, index, items.as_slice(), wait.byte, waiting)
+            add_items(entries, index, items.as_slice(), wait.byte, waiting, found)
         }
     }
 }
@@ -153,7 +207,7 @@ fn step_at<P: Locals>(
         let len = told::len_at(entries, index, entry, wait.event);
         return keep_source(found, wait, len);
     }
-    follow(alloc, entries, index, locals, entry, wait, waiting)
+    follow(alloc, entries, index, locals, entry, wait, waiting, found)
 }
 
 /// Follows what waits.

@@ -1,6 +1,6 @@
 // What the records of events tell.
 ghost use Rattle.lineage_join.specs.declared.wait.Kind.TheVariants as kind;
-ghost use Rattle.std.specs.Prelude.{◌≡◌, if◌then◌else◌, ◌+◌, ◌<◌, ◌^◌, ℕ, is_some, option_map, option_and_then, slice_get, Some};
+ghost use Rattle.std.specs.Prelude.{◌≡◌, if◌then◌else◌, ◌+◌, ◌<◌, ◌^◌, ℕ, IsTrue, is_some, option_map, slice_get, Some, None};
 ghost use Rattle.arn_base.specs.declared.records.Src.{Src};
 ghost use Rattle.acts_model.specs.Records as records;
 ghost use Rattle.history_index.specs.Indexes.{Indexes};
@@ -15,6 +15,9 @@ use arn_base::{Extra, Give, Origin, Record};
 use history_index::Index;
 use parts_model::calls::{FORK, READ};
 use set_store::Item;
+
+/// So many origins are few: among them, one is looked for again and again.
+const FEW: usize = 16;
 
 fn at_place(entries: &[Record], place: usize) -> Option<&Record>
     ensures { option_map (λ entry. entry.now) result ≡ slice_get entries.now place }
@@ -68,14 +71,10 @@ fn start_or_received(founds: bool) -> Kind
 }
 
 /// What an item of an event is.
-pub fn kind_of(entries: &[Record], index: &Index, event: u64) -> Kind
-    requires { Indexes index.now entries.now }
-    ensures { result ≡ kind_by (option_and_then founded (event_at entries.now event)) }
+pub fn kind_at(entry: &Record) -> Kind
+    ensures { result ≡ kind_by (founded entry.now) }
 {
-    match record_at(entries, index, event) {
-        Some(entry) => start_or_received(founds(entry)),
-        None => Kind::Received,
-    }
+    start_or_received(founds(entry))
 }
 
 /// What was received with its origins.
@@ -89,6 +88,16 @@ fn give_of(entry: &Record) -> Option<&Give>
             ..
         } => Some(give),
         _ => None,
+    }
+}
+
+/// Whether an event received bytes of few origins.
+pub fn has_few_origins(entry: &Record) -> bool
+    ensures { IsTrue result → founded entry.now ≡ None }
+{
+    match give_of(entry) {
+        Some(give) => give.origins.len() <= FEW,
+        None => false,
     }
 }
 

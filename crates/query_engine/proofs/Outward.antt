@@ -277,12 +277,12 @@ module _ (entries : List Record) (groups : List ℕ) (asked : Asked) (linkage : 
         });
       }
 
-  pub all-pairs : PairsAreOne → (found pairs : List Pair) → pairs ≡ found → IsRising pairs → ((pair : Pair) → Contains found pair ↔ IsOutBefore reach entries groups asked (how_many entries) pair)
+  pub all-pairs : PairsAreOne → (found pairs : List Pair) → ((pair : Pair) → Contains pairs pair ↔ Contains found pair) → IsRising pairs → ((pair : Pair) → Contains found pair ↔ IsOutBefore reach entries groups asked (how_many entries) pair)
       → pairs ≡ pairs_among (operands linkage) entries groups asked.event asked.from asked.len
-  all-pairs one found pairs is rising are =
+  all-pairs one found pairs same rising are =
       one sources asked.len pairs rising (λ pair. (
         λ c. (
-            let out = (are pair).0 (subst (λ (ps : List Pair). Contains ps pair) is c) in
+            let out = (are pair).0 ((same pair).0 c) in
             let ends = pair-event out.0 pair (event_at entries out.0) out.2.is in (
               ends.1,
               (told entries groups among asked.event (asked.from + pair.byte) pair.event pair.at).1
@@ -290,6 +290,5 @@ module _ (entries : List Record) (groups : List ℕ) (asked : Asked) (linkage : 
             )),
         λ h. (
             let r = (told entries groups among asked.event (asked.from + pair.byte) pair.event pair.at).0 h.1 in
-            subst (λ (ps : List Pair). Contains ps pair) (sym is)
-            ((are pair).1 (pair.event, slice_get_within (events entries) pair.event r.entry r.there, reached-out pair h.0 r))),
+            (same pair).1 ((are pair).1 (pair.event, slice_get_within (events entries) pair.event r.entry r.there, reached-out pair h.0 r))),
       ))

@@ -14,10 +14,6 @@ use Rattle.taint_flow.specs.Results.{AreResults, TakesOperands}
 use Rattle.taint_flow.proofs.Flows.{bytewise-flow, carried-flow, rising-flow, whole-flow, within-count}
 use Rattle.taint_flow.proofs.Grown.{first-more, lowest-of, only}
 
--- the one set of a register's bytes stands for a set
-pub one-is-set : (sets : Numbered) (numbers : List ℕ) (set : ℕ) → HaveOne numbers set → AreNumbers sets numbers → IsSet sets set
-one-is-set sets numbers set one are = let some : 0 < byte_count = omega arith in subst (IsSet sets) (one 0 some) (are.set 0 some)
-
 none-in : {X : Type 0} (x : X) → Contains [] x → ⊥
 none-in x c = let below : c.0 < 0 = c.1 in omega arith
 

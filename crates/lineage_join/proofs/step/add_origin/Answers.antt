@@ -1,10 +1,18 @@
-use Rattle.std.proofs.Common.{Option, subst}
-use Rattle.arn_base.specs.declared.records.Src.{Src}
-use Rattle.lineage_join.specs.Waits.{HasBoth, origin_waits}
-use Rattle.lineage_join.proofs.Members.{both-one}
+use Rattle.std.proofs.Common.{Option, OnOk, option_map, subst, sym}
+use Rattle.set_store.specs.declared.item.Item.{Item}
+use Rattle.history_model.specs.Events.{event_at}
+use Rattle.lineage_join.specs.Added.{HasAdded}
+use Rattle.lineage_join.specs.Laws.{reaches}
+use Rattle.lineage_join.specs.Waits.{from_wait, origin_waits}
+use Rattle.lineage_join.proofs.Comes.{none-also}
 use Rattle.lineage_join.proofs.step.add_origin.Goals as goal
 
-pub returns-in_ok-add-clause-ok : goal.returns-in_ok-add-clause-ok
-returns-in_ok-add-clause-ok c =
-    subst (λ (o : Option Src). HasBoth c.args.waiting.now (origin_waits c.args.byte o) c.add.new.self) c.in-Some.ensures
-    (both-one c.args.waiting.now c.add.new.self _ c.in_ok-add.ensures.ok)
+pub returns-in-None-clause-ok : goal.returns-in-None-clause-ok
+returns-in-None-clause-ok c =
+    subst (λ (o : Option Item). HasAdded c.args.entries.now c.args.waiting.now c.args.found.now (origin_waits c.args.byte (option_map (λ (i : Item). record { event = i.event; at = i.at }) o)) c.args.waiting.now c.args.found.now) (sym c.in-None.is)
+    (λ items fit. none-also (from_wait (event_at c.args.entries.now) (reaches c.args.entries.now items)) c.args.waiting.now c.args.found.now)
+
+pub returns-in-Some-clause-ok : goal.returns-in-Some-clause-ok
+returns-in-Some-clause-ok c =
+    subst (λ (o : Option Item). OnOk c.add_shown.result (HasAdded c.args.entries.now c.args.waiting.now c.args.found.now (origin_waits c.args.byte (option_map (λ (i : Item). record { event = i.event; at = i.at }) o)) c.add_shown.new.waiting c.add_shown.new.found)) (sym c.in-Some.is)
+    c.add_shown.ensures.ok

@@ -14,7 +14,7 @@ returns c =
     let entries = c.args.entries.now in
     let among = followed-among entries c.args.linkage (total entries) c.args.followed.now c.args.groups.now c.requires.of c.requires.has c.requires.only in
     ok-both c.pairs.result
-    (λ pairs is rising. all-pairs entries c.args.groups.now c.args.asked c.args.linkage (items_followed c.args.followed.now) c.laws_forth.ensures.sinks
+    (λ pairs same rising. all-pairs entries c.args.groups.now c.args.asked c.args.linkage (items_followed c.args.followed.now) c.laws_forth.ensures.sinks
     (c.laws_forth.ensures.among c.args.linkage entries c.args.groups.now (total entries) (items_followed c.args.followed.now) c.requires.indexed.stands c.blocks_are_whole.ensures among)
-    c.pairs_are_one.ensures c.in_ok-found.found pairs is rising c.in_ok-found.ensures)
-    c.pairs.ensures.pairs c.pairs.ensures.rising
+    c.pairs_are_one.ensures c.in_ok-found.found pairs same rising c.in_ok-found.ensures)
+    c.pairs.ensures.members c.pairs.ensures.rising
