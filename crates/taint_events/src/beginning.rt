@@ -29,17 +29,17 @@ fn count_register(row: &mut Row, reg: Reg, first: u32)
 }
 
 /// Registers whose bytes have the numbers from one on.
-fn count_row(first: u32) -> Row
+fn count_row(alloc: Global, first: u32) -> Result<Row, NoMemory>
     requires { first + 248 ≤ 2 ^ 32 }
-    ensures { Counts first result }
+    ensures { IfOk result (Counts first) }
 {
-    let mut row = Row::new();
+    let mut row = Row::new(alloc)?;
     for below in 0..31 {
         if let Some(reg) = Reg::new(below + 1) {
             count_register(&mut row, reg, first + 8 * u32::from(below));
         }
     }
-    row
+    Ok(row)
 }
 
 /// A member that begins without a parent: each byte is an item by itself, but for x10.
@@ -54,8 +54,8 @@ pub fn begun(alloc: Global, sets: &mut SpanSets, event: u64) -> Result<MemberSet
     let first = sets.receive(event, 0, 2 * REGISTER_BYTES as usize)?;
     let start = sets.receive(event, WINDOW_START, WINDOW_LEN as usize)?;
     let mut member = MemberSets {
-        registers: count_row(first),
-        slot: count_row(first + REGISTER_BYTES),
+        registers: count_row(alloc, first)?,
+        slot: count_row(alloc, first + REGISTER_BYTES)?,
         window: SetNumbers::new(alloc, WINDOW_PAGES, Unset::From(start))?,
         made: event,
         segment: None,

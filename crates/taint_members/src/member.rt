@@ -9,6 +9,7 @@ ghost use Rattle.taint_members.specs.Rows.{AreZero, ClearsResult, IsSaved, windo
 use arn_base::NoMemory;
 use rv64_isa::Reg;
 use std::alloc::Global;
+use std::mem;
 use taint_pages::{Row, SetNumbers, Unset};
 use taint_spans::Carrying;
 
@@ -68,7 +69,7 @@ impl MemberSets {
           slot = self.new.slot;
         } }
     {
-        self.slot = self.registers.copy();
+        self.slot.copy_from(&self.registers);
         if cut {
             clear_result(&mut self.slot);
         }
@@ -83,8 +84,8 @@ impl MemberSets {
           slot = self.new.slot;
         } }
     {
-        self.registers = self.slot.copy();
-        self.slot = Row::new();
+        mem::swap(&mut self.registers, &mut self.slot);
+        self.slot.clear_all();
     }
 
     /// The child of a fork: its registers, but the result, its slot and its window have what its parent's have. The
@@ -98,11 +99,11 @@ impl MemberSets {
         ensures parent { self.new ≡ self.old }
     {
         self.window.share()?;
-        let mut registers = self.registers.copy();
+        let mut registers = self.registers.copy()?;
         clear_result(&mut registers);
         Ok(MemberSets {
             registers,
-            slot: self.slot.copy(),
+            slot: self.slot.copy()?,
             window: self.window.copy()?,
             made: event,
             segment: self.segment,
@@ -118,8 +119,8 @@ impl MemberSets {
         ensures segment { IfOk result (λ member. member.segment ≡ None) }
     {
         Ok(MemberSets {
-            registers: Row::new(),
-            slot: Row::new(),
+            registers: Row::new(alloc)?,
+            slot: Row::new(alloc)?,
             window: empty_window(alloc)?,
             made: event,
             segment: None,

@@ -1,20 +1,33 @@
 // The numbers of the bytes of registers.
-ghost use Rattle.std.specs.Prelude.{◌≡◌, ◌<◌, ◌≤◌, ◌+◌, ◌*◌, ◌↔◌, ℕ, IsTrue, false, length, slice_index, OnOk};
+ghost use Rattle.std.specs.Prelude.{◌≡◌, ◌<◌, ◌≤◌, ◌+◌, ◌*◌, ◌↔◌, ℕ, IsTrue, false, length, slice_index, IfOk, OnOk};
 ghost use Rattle.taint_spans.specs.Carried.{CarriesOn, HaveNumbers};
 ghost use Rattle.taint_pages.specs.Rows.{AreBytes, ClearsBytes, PutsBytes, SetsByte, byte_in};
 
 use arn_base::NoMemory;
 use rv64_isa::Reg;
+use std::alloc::Global;
 use std::marker::Model;
 use taint_spans::Carrying;
 
-/// The number of the set of each byte of the registers. The bytes of x0 have 0, and so have those of each register that isn't
-/// marked.
-#[derive(Debug, Drop)]
-pub struct Row {
+/// The number of the set of each byte of the registers, and which registers are marked. The bytes of x0 have 0, and so have those of
+/// each register that isn't marked.
+#[derive(Clone, Copy, Debug)]
+struct Numbers {
     numbers: [u32; 256],
     marked: [bool; 32],
 }
+
+/// The number of the set of each byte of the registers. They stand in a box, so tables of rows are small.
+#[derive(Debug, Drop)]
+pub struct Row {
+    kept: Box<Numbers>,
+}
+
+/// 0 for each byte, and no mark.
+const ZEROS: Numbers = Numbers {
+    numbers: [0; 256],
+    marked: [false; 32],
+};
 
 impl Model for Row {
     ghost use Rattle.std.specs.Prelude.{ℕ, List};
@@ -22,9 +35,10 @@ impl Model for Row {
 
     ghost Value = { List ℕ };
 
-    ghost view = { λ r. r.numbers };
+    ghost view = { λ r. r.kept.value.numbers };
 
-    ghost invariant = { λ r. IsRow r.numbers × AreMarked r.numbers r.marked };
+    ghost invariant = { λ r. IsRow r.kept.value.numbers
+        × AreMarked r.kept.value.numbers r.kept.value.marked };
 }
 
 /// Whether each of these numbers is 0.
@@ -37,23 +51,36 @@ fn are_zero(numbers: &[u32]) -> bool
 
 impl Row {
     /// 0 for each byte.
-    pub fn new() -> Row
-        ensures { (r i : ℕ) → byte_in result r i ≡ 0 }
+    pub fn new(alloc: Global) -> Result<Row, NoMemory>
+        ensures { IfOk result (λ row. (r i : ℕ) → byte_in row r i ≡ 0) }
     {
-        Row {
-            numbers: [0; 256],
-            marked: [false; 32],
-        }
+        Ok(Row {
+            kept: Box::new(alloc, ZEROS)?,
+        })
     }
 
     /// The same numbers again.
-    pub fn copy(&self) -> Row
-        ensures { result ≡ self.now }
+    pub fn copy(&self) -> Result<Row, NoMemory>
+        ensures { IfOk result (λ copy. copy ≡ self.now) }
     {
-        Row {
-            numbers: self.numbers,
-            marked: self.marked,
-        }
+        let alloc = *Box::allocator(&self.kept);
+        Ok(Row {
+            kept: Box::new(alloc, *self.kept)?,
+        })
+    }
+
+    /// Gives each byte the number that it has in another row.
+    pub fn copy_from(&mut self, other: &Row)
+        ensures { self.new ≡ other.now }
+    {
+        *self.kept = *other.kept;
+    }
+
+    /// Sets the number of each byte to 0.
+    pub fn clear_all(&mut self)
+        ensures { (r i : ℕ) → byte_in self.new r i ≡ 0 }
+    {
+        *self.kept = ZEROS;
     }
 
     /// Gives each byte the number that its set has from now on.
@@ -61,7 +88,7 @@ impl Row {
         ensures numbers { OnOk result (HaveNumbers carrying.new self.old self.new) }
         ensures on { CarriesOn carrying.old carrying.new }
     {
-        carrying.carry_all(&mut self.numbers)
+        carrying.carry_all(self.kept.numbers.as_mut_slice())
     }
 
     /// The number of a byte of a register.
@@ -71,7 +98,7 @@ impl Row {
         ensures number { result ≡ byte_in self.now reg byte }
         ensures zero { reg ≡ 0 → result ≡ 0 }
     {
-        self.numbers[place(reg, byte)]
+        self.kept.numbers[place(reg, byte)]
     }
 
     /// Sets the number of a byte of a register that isn't x0.
@@ -81,8 +108,8 @@ impl Row {
         requires byte { byte < 8 }
         ensures { SetsByte reg byte number self.old self.new }
     {
-        self.numbers[place(reg, byte)] = number;
-        self.marked[usize::from(reg.number())] = true;
+        self.kept.numbers[place(reg, byte)] = number;
+        self.kept.marked[usize::from(reg.number())] = true;
     }
 
     /// Whether each byte of a register has 0. False may be answered of one whose bytes have it.
@@ -90,7 +117,7 @@ impl Row {
     pub fn is_clear(&self, reg: Reg) -> bool
         ensures { IsTrue result → (i : ℕ) → i < 8 → byte_in self.now reg i ≡ 0 }
     {
-        !self.marked[usize::from(reg.number())]
+        !self.kept.marked[usize::from(reg.number())]
     }
 
     /// Sets the number of each byte of a register that isn't x0 to 0.
@@ -112,7 +139,7 @@ impl Row {
         for byte in 0..8 {
             self.set(reg, byte, 0);
         }
-        self.marked[usize::from(reg.number())] = false;
+        self.kept.marked[usize::from(reg.number())] = false;
     }
 
     /// The numbers of the eight bytes of a register.
@@ -121,7 +148,7 @@ impl Row {
         ensures { AreBytes self.now reg result.now }
     {
         let start = place(reg, 0);
-        &self.numbers[start..start + 8]
+        &self.kept.numbers[start..start + 8]
     }
 
     /// Sets the numbers of all bytes of a register that isn't x0.

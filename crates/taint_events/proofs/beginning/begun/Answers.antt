@@ -4,7 +4,7 @@ use Rattle.taint_members.specs.Rows.{ClearsResult}
 use Rattle.taint_members.specs.declared.member.MemberSets.{MemberSets}
 use Rattle.taint_pages.specs.Rows.{byte_in}
 use Rattle.taint_events.specs.Beginning.{AreItemsOfRow, BeginsRegisters, Counts}
-use Rattle.taint_events.proofs.Growing.{item-stays, row-items, window-items}
+use Rattle.taint_events.proofs.Growing.{item-stays, row-items}
 use Rattle.taint_events.proofs.beginning.begun.Goals as goal
 
 from-zero : (n : ℕ) → 0 + n ≡ n
@@ -23,16 +23,16 @@ row-stays old new event first row stands items = λ r i above below byte. item-s
 
 pub returns-clause-registers : goal.returns-clause-registers
 returns-clause-registers c =
-    let row = c.count_row.result in
+    let row = c.in_ok-count_row.field-0 in
     let from : c.in_ok-first.first + 0 ≡ c.in_ok-first.first = omega arith in
     begins c.receive-2.new.self c.args.event row c.returns.new.self.registers
     (row-stays c.receive.new.self c.receive-2.new.self c.args.event 0 row c.receive-2.ensures.before
-    (row-items c.receive.new.self c.args.event 496 c.in_ok-first.first 0 row c.in_ok-first.ensures.received (omega arith) (subst (λ (n : ℕ). Counts n row) (sym from) c.count_row.ensures)))
+    (row-items c.receive.new.self c.args.event 496 c.in_ok-first.first 0 row c.in_ok-first.ensures.received (omega arith) (subst (λ (n : ℕ). Counts n row) (sym from) c.in_ok-count_row.ensures)))
     c.returns.ensures.result
 
 pub returns-clause-slot : goal.returns-clause-slot
 returns-clause-slot c =
-    let row = c.count_row-2.result in
+    let row = c.in_ok-count_row-2.field-0 in
     subst (λ (slot : List ℕ). AreItemsOfRow c.receive-2.new.self c.args.event 248 slot) (sym (ap (λ (m : MemberSets). m.slot) c.returns.ensures.others))
     (row-stays c.receive.new.self c.receive-2.new.self c.args.event 248 row c.receive-2.ensures.before
-    (row-items c.receive.new.self c.args.event 496 c.in_ok-first.first 248 row c.in_ok-first.ensures.received (omega arith) c.count_row-2.ensures))
+    (row-items c.receive.new.self c.args.event 496 c.in_ok-first.first 248 row c.in_ok-first.ensures.received (omega arith) c.in_ok-count_row-2.ensures))
