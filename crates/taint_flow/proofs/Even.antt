@@ -9,7 +9,7 @@ use Rattle.taint_flow.specs.declared.flow.Flow.{Flow}
 use Rattle.taint_flow.specs.declared.flow.Flow.TheVariants.{Rising, Carried, Whole, Bytewise}
 use Rattle.taint_flow.specs.Even.{HasSet, HaveLow, HaveOne, HaveTwo, IsSetOrNone}
 use Rattle.taint_flow.specs.Flow.{IsFlow, reach}
-use Rattle.taint_flow.specs.Gathered.{AreNumbers, byte_count, number_of}
+use Rattle.taint_flow.specs.Gathered.{byte_count, number_of}
 use Rattle.taint_flow.specs.Results.{AreResults, TakesOperands}
 use Rattle.taint_flow.proofs.Flows.{bytewise-flow, carried-flow, rising-flow, whole-flow, within-count}
 use Rattle.taint_flow.proofs.Grown.{first-more, lowest-of, only}

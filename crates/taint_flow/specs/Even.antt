@@ -3,7 +3,7 @@ use Rattle.std.specs.Prelude.{◌≡◌, ◌⊎◌, ℕ, ◌<◌, List, slice_in
 use Rattle.rv64_model.specs.Carries.{Operand}
 use Rattle.taint_flow.specs.Gathered.{byte_count}
 
--- a number is that of a set, or that of none
+-- a number is that of a set, or of the empty set
 abbrev pub IsSetOrNone : ℕ → ℕ → Type 0
 IsSetOrNone number set = (number ≡ set) ⊎ (number ≡ 0)
 

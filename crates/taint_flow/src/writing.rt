@@ -98,9 +98,8 @@ fn low_set(numbers: &[u32]) -> Option<u32>
     }
 }
 
-// The two sets that each byte of a result is worked out from, where its registers have one set each. They are the same where it is
-// worked out from one register. Where the lowest byte of a register is always among what is taken,
-// it is enough that each other byte has its set or none.
+// One set for each register that is read, whose union each byte of the result has. They are the same where one register is read.
+// Where the lowest byte of a register is always among what is taken, it is enough that each other byte has its set or none.
 #[inline(always)]
 fn one_each(flow: Flow, first: &[u32], second: &[u32]) -> Option<(u32, u32)>
     requires first { length first.now ≡ byte_count }
@@ -130,7 +129,7 @@ fn one_each(flow: Flow, first: &[u32], second: &[u32]) -> Option<(u32, u32)>
     }
 }
 
-// The same of any instruction. Bytes that take the same share their set. It gets the instruction by value, so that
+// The sets of any result, byte by byte. Bytes that take the same share their set. It gets the instruction by value, so that
 // that of the caller needs no place in memory.
 #[inline(never)]
 fn mixed(

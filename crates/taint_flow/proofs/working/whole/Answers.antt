@@ -1,9 +1,10 @@
-use Rattle.std.proofs.Common.{◌≡◌, ℕ, ◌+◌, ◌<◌, ◌≤◌, nat_lt, Bool, true, false, slice_index, refl, subst, ◌∙◌, arith, zero, suc, replicate, sym}
+use Rattle.std.proofs.Common.{◌≡◌, ℕ, ◌+◌, ◌<◌, ◌≤◌, nat_lt, Bool, true, false, slice_index, refl, subst, ◌∙◌, arith, sym}
 use Rattle.std.proofs.lemmas.Bool.{ltb-true, ltb-false}
 use Rattle.rv64_model.specs.Carries.{Left, first_bytes}
 use Rattle.taint_flow.specs.Flow.{IsWidth, reach}
 use Rattle.taint_flow.specs.Gathered.{number_of}
 use Rattle.taint_flow.specs.Results.{TakesOperands}
+use Rattle.taint_flow.proofs.Even.{same-at}
 use Rattle.taint_flow.proofs.Grown.{reach-above, reach-below}
 use Rattle.taint_flow.proofs.working.whole.Goals as goal
 
@@ -18,12 +19,6 @@ last width fits = by (nat_lt 7 width) refl where
       reach-below width 7 below ∙ all
   by false e = reach-above width 7 fits (ltb-false 7 width e)
 
--- the same number so many times
-each : (number count i : ℕ) → i < count → slice_index (replicate count number) i ≡ number
-each number zero i h = absurd (omega arith)
-each number (suc count) zero h = refl
-each number (suc count) (suc i) h = each number count i (omega arith)
-
 pub returns-clause-results : goal.returns-clause-results
 returns-clause-results c = λ second loaded.
     let number = number_of c.args.first.now second loaded in
@@ -32,5 +27,5 @@ returns-clause-results c = λ second loaded.
     ((c.in_ok-numbers.ensures.results second loaded).bytes 7 seven) in
     record {
       len = refl;
-      bytes = λ i h. subst (λ n. TakesOperands c.args.sets.now c.rising.new.sets number (first_bytes Left c.args.width) n) (sym (each (slice_index c.in_ok-numbers.numbers 7) 8 i h)) taken;
+      bytes = λ i h. subst (λ n. TakesOperands c.args.sets.now c.rising.new.sets number (first_bytes Left c.args.width) n) (sym (same-at 8 i (slice_index c.in_ok-numbers.numbers 7) h)) taken;
     }
