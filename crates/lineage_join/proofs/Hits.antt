@@ -15,7 +15,7 @@ use Rattle.arn_base.specs.declared.records.Pair.{Pair}
 use Rattle.lineage_join.specs.contracts.found.HitOrd.TheImpl as hit_order
 use Rattle.lineage_join.specs.contracts.found.HitPartialEq.TheImpl as hit_equal
 use Rattle.lineage_join.specs.declared.found.Hit.{Hit}
-use Rattle.lineage_join.specs.Hits.{HaveSame, pair_of}
+use Rattle.lineage_join.specs.Hits.{HaveSameHits, pair_of}
 use Rattle.lineage_join.specs.Rising.{pair_cmp, IsRising}
 use Rattle.lineage_join.specs.Waits.{HasAlso}
 use Rattle.lineage_join.proofs.Keys.{then-equal, equal}
@@ -67,13 +67,13 @@ module _ (old new : List Hit) (hit : Hit) (is : new ≡ old ++ hit ∷ []) where
   )
 
 -- the same members, of hits and of pairs
-pub same-pairs : (old new : List Hit) → HaveSame old new → (p : Pair) → Contains (map pair_of new) p ↔ Contains (map pair_of old) p
+pub same-pairs : (old new : List Hit) → HaveSameHits old new → (p : Pair) → Contains (map pair_of new) p ↔ Contains (map pair_of old) p
 same-pairs old new same p = (
   λ c. let from = unmapped pair_of new p c in subst (λ (q : Pair). Contains (map pair_of old) q) from.2 (mapped pair_of old from.0 ((same from.0).0 from.1)),
   λ c. let from = unmapped pair_of old p c in subst (λ (q : Pair). Contains (map pair_of new) q) from.2 (mapped pair_of new from.0 ((same from.0).1 from.1)),
 )
 
-pub also-pairs : (old mid new : List Hit) (hit : Hit) → HasAlso (map pair_of old) (pair_of hit) (map pair_of mid) → HaveSame mid new → HasAlso (map pair_of old) (pair_of hit) (map pair_of new)
+pub also-pairs : (old mid new : List Hit) (hit : Hit) → HasAlso (map pair_of old) (pair_of hit) (map pair_of mid) → HaveSameHits mid new → HasAlso (map pair_of old) (pair_of hit) (map pair_of new)
 also-pairs old mid new hit also same p = (λ c. (also p).0 ((same-pairs mid new same p).0 c), λ s. (same-pairs mid new same p).1 ((also p).1 s))
 
 each-mapped : (a : Hit) (hits : List Hit) → AllByRecursion (λ b. hit_cmp a b ≡ Less) hits → AllByRecursion (λ q. pair_cmp (pair_of a) q ≡ Less) (map pair_of hits)
@@ -115,7 +115,7 @@ module _ (old mid new : List Hit) (moved : IsPermutation old mid) (kept : IsFilt
   is : new ≡ dedup hit_eq mid
   is = dedup_is hit_eq mid new kept
 
-  pub settled : HaveSame old new
+  pub settled : HaveSameHits old new
   settled x = (
     λ c. Contains-permutation mid old x (IsPermutation-sym old mid moved) (Contains-from_dedup hit_eq mid x (subst (λ (l : List Hit). Contains l x) is c)),
     λ c. subst (λ (l : List Hit). Contains l x) (sym is) (Contains-dedup hit-equivalence (λ a b e. (hit-decides a b).0 e) mid x (Contains-permutation old mid x moved c)),

@@ -7,5 +7,5 @@ abbrev pub pair_of : Hit → Pair
 pair_of hit = record { event = hit.event; at = hit.at; byte = hit.byte }
 
 -- they have the same members, in whatever order and however often
-abbrev pub HaveSame : List Hit → List Hit → Type 0
-HaveSame old new = (hit : Hit) → Contains new hit ↔ Contains old hit
+abbrev pub HaveSameHits : List Hit → List Hit → Type 0
+HaveSameHits old new = (hit : Hit) → Contains new hit ↔ Contains old hit

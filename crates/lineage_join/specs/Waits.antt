@@ -106,7 +106,7 @@ pub record IsStepped (from : Wait → List EventByte) (waiting : List Wait) (fou
   pub comes : (pair : Pair) → Comes from then_waiting then_found pair ↔ (Comes from waiting found pair ⊎ LeadsTo from wait pair)
   pub falls : (other : Wait) → Contains then_waiting other → Contains waiting other ⊎ (level other < level wait)
 
--- it is no later than one of some
+-- it is at most as late as one of these
 abbrev pub IsWithin : List Wait → Wait → Type 0
 IsWithin waits other = (wait : Wait) × Contains waits wait × (level other ≤ level wait)
 

@@ -2,7 +2,7 @@
 ghost use Rattle.std.specs.Prelude.{◌≡◌, ◌↔◌, [], Contains, List, map, OnOk, IfOk};
 ghost use Rattle.arn_base.specs.declared.records.Pair.{Pair};
 ghost use Rattle.lineage_join.specs.declared.found.Hit.{Hit};
-ghost use Rattle.lineage_join.specs.Hits.{HaveSame, pair_of};
+ghost use Rattle.lineage_join.specs.Hits.{HaveSameHits, pair_of};
 ghost use Rattle.lineage_join.specs.Rising.{IsRising};
 ghost use Rattle.lineage_join.specs.Waits.{HasAlso};
 
@@ -41,7 +41,7 @@ impl Model for Found {
 
 /// Sorts hits, and keeps each once.
 fn settle(hits: &mut Vec<Hit>)
-    ensures members { HaveSame hits.old.items hits.new.items }
+    ensures members { HaveSameHits hits.old.items hits.new.items }
     ensures rising { IsRising (map pair_of hits.new.items) }
 {
     hits.sort_unstable();

@@ -76,7 +76,7 @@ fn add_origin(
     }
 }
 
-/// Adds an item: a source byte is found, a copy is followed to its origin where that is soon told, and
+/// Adds an item: a source byte is found, a copy is followed to its origin where its event has few origins, and
 /// another byte waits.
 pub fn add_item(
     entries: &[Record],
@@ -98,7 +98,7 @@ pub fn add_item(
                 let len = told::len_at(entries, index, entry, item.event);
                 return keep(found, item.event, len, item.at, byte);
             }
-            if told::has_few_origins(entry) {
+            if told::received_from_few(entry) {
                 let origin = told::origin_of(entry, item.at);
                 return add_origin(entries, index, origin, byte, waiting, found);
             }

@@ -1,6 +1,6 @@
 // What the records of events tell.
 ghost use Rattle.lineage_join.specs.declared.wait.Kind.TheVariants as kind;
-ghost use Rattle.std.specs.Prelude.{◌≡◌, if◌then◌else◌, ◌+◌, ◌<◌, ◌^◌, ℕ, IsTrue, is_some, option_map, slice_get, Some, None};
+ghost use Rattle.std.specs.Prelude.{◌≡◌, if◌then◌else◌, ◌+◌, ◌<◌, ◌^◌, ℕ, IsSome, IsTrue, is_some, option_map, slice_get, Some, None};
 ghost use Rattle.arn_base.specs.declared.records.Src.{Src};
 ghost use Rattle.acts_model.specs.Records as records;
 ghost use Rattle.history_index.specs.Indexes.{Indexes};
@@ -91,9 +91,10 @@ fn give_of(entry: &Record) -> Option<&Give>
     }
 }
 
-/// Whether an event received bytes of few origins.
-pub fn has_few_origins(entry: &Record) -> bool
-    ensures { IsTrue result → founded entry.now ≡ None }
+/// Whether an event received bytes, and these have few origins. How many are few is for speed alone.
+pub fn received_from_few(entry: &Record) -> bool
+    ensures received { IsTrue result → IsSome (records.give_of entry.now) }
+    ensures plain { IsTrue result → founded entry.now ≡ None }
 {
     match give_of(entry) {
         Some(give) => give.origins.len() <= FEW,

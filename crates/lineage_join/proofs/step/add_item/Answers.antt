@@ -25,16 +25,16 @@ returns-then-is_source-clause-ok c =
     (subst (λ (n : ℕ). HasPairs c.args.found.now c.args.byte (source_byte c.args.item.event n (Byte c.args.item.at)) c.keep.new.found) c.len_at-len.ensures h))
     c.keep.ensures
 
-pub returns-then-has_few_origins-clause-ok : goal.returns-then-has_few_origins-clause-ok
-returns-then-has_few_origins-clause-ok c =
+pub returns-then-received_from_few-clause-ok : goal.returns-then-received_from_few-clause-ok
+returns-then-received_from_few-clause-ok c =
     on-ok _ _ c.add_origin.result
     (λ h items fit. copy-also c.args.entries.now items c.requires.indexed.stands fit c.args.item c.args.byte c.args.waiting.now c.add_origin.new.waiting c.args.found.now c.add_origin.new.found c.in-Some.entry.now (sym c.in-Some.ensures)
-    (sym c.is_source.ensures ∙ c.if-is_source.false) (c.has_few_origins.ensures c.if-has_few_origins.true)
+    (sym c.is_source.ensures ∙ c.if-is_source.false) (c.received_from_few.ensures.plain c.if-received_from_few.true)
     ((subst (λ (o : Option Src). HasAdded c.args.entries.now c.args.waiting.now c.args.found.now (origin_waits c.args.byte o) c.add_origin.new.waiting c.add_origin.new.found) c.origin_of-origin.ensures h) items fit))
     c.add_origin.ensures.ok
 
-pub returns-else-has_few_origins-clause-ok : goal.returns-else-has_few_origins-clause-ok
-returns-else-has_few_origins-clause-ok c =
+pub returns-else-received_from_few-clause-ok : goal.returns-else-received_from_few-clause-ok
+returns-else-received_from_few-clause-ok c =
     let kind = c.kind_at.ensures ∙ ap (λ (o : Option Record). kind_by (option_and_then founded o)) c.in-Some.ensures in
     on-ok _ _ c.add.result
     (λ h items fit. waits-also (from_wait (event_at c.args.entries.now) (reaches c.args.entries.now items)) c.args.waiting.now c.add.new.self c.args.found.now _
