@@ -51,9 +51,11 @@ abbrev pub PutsFirst : ℕ → (ℕ → ℕ) → ℕ → List ℕ → List ℕ �
 PutsFirst count number reg old new =
     (r i : ℕ) → i < 8 → byte_in new r i ≡ (if r == reg then (if nat_lt i count then number i else 0) else byte_in old r i)
 
+-- a register gets the numbers of so many bytes from an address on, of a segment that may be held
 abbrev pub PutsReadShared : Option Shared → Segments → ℕ → ℕ → ℕ → List ℕ → List ℕ → Type 0
 PutsReadShared segment segments at count reg old new = PutsFirst count (shared_number segment segments at) reg old new
 
+-- and of the memories of a member
 abbrev pub PutsRead : MemberSets → Segments → ℕ → ℕ → ℕ → List ℕ → List ℕ → Type 0
 PutsRead m segments at count reg old new = PutsFirst count (number_at m segments at) reg old new
 
@@ -71,7 +73,7 @@ abbrev pub ByTest : Bool → Type 0 → Type 0 → Type 0
 ByTest true first other = first
 ByTest false first other = other
 
--- the numbers of a window from an address on are others, where the address lies in it
+-- a window has these numbers from an address on, where the address lies in it, and else what it had
 abbrev pub PutsWindow : ℕ → List ℕ → List ℕ → List ℕ → Type 0
 PutsWindow at numbers old new = ByTest (is_private at) (Puts (at - WINDOW_START) numbers old new) (new ≡ old)
 
@@ -84,6 +86,7 @@ pub record WritesKey (key at : ℕ) (numbers : List ℕ) (old new : Segments) : 
   pub one : Puts at numbers (slice_index_or old key []) (slice_index_or new key [])
   pub others : (k : ℕ) → k ≢ key → slice_index_or new k [] ≡ slice_index_or old k []
 
+-- the segment that is held has these numbers from a place on, and all others what they had
 abbrev pub WritesHeld : ℕ → List ℕ → Option Shared → Segments → Segments → Type 0
 WritesHeld at numbers None old new = new ≡ old
 WritesHeld at numbers (Some shared) old new = WritesKey shared.key (at - SEGMENT_START) numbers old new

@@ -163,12 +163,12 @@ pub fn write(
     ensures others { member.new ≡ record member.old { window = member.new.window } }
     ensures keys { length segments.new ≡ length segments.old }
 {
-    write_bytes(&mut member.window, member.segment, segments, at, numbers)
+    write_held(&mut member.window, member.segment, segments, at, numbers)
 }
 
 /// The same by a member's window and the segment that it may hold.
 #[inline(always)]
-pub fn write_bytes(
+pub fn write_held(
     window: &mut SetNumbers,
     segment: Option<Shared>,
     segments: &mut [SetNumbers],

@@ -5,5 +5,5 @@
 mod access;
 mod member;
 
-pub use access::{load_register, number, read, write, write_bytes};
+pub use access::{load_register, number, read, write, write_held};
 pub use member::{MemberSets, Shared};

@@ -10,7 +10,7 @@ use rv64_core::accessed;
 use rv64_isa::{Instr, Reg};
 use rv64_model::Linkage;
 use taint_flow::{loaded_len, moves_loaded, moves_stored, rd, rs2, stored_len};
-use taint_members::{MemberSets, load_register, write_bytes};
+use taint_members::{MemberSets, load_register, write_held};
 use taint_pages::SetNumbers;
 use taint_spans::SpanSets;
 
@@ -92,6 +92,6 @@ pub fn move_stored(
         return Ok(false);
     };
     let numbers = &bytes_of(&member.registers, rs2(instr))[..stored_len(instr)];
-    write_bytes(&mut member.window, member.segment, segments, at, numbers)?;
+    write_held(&mut member.window, member.segment, segments, at, numbers)?;
     Ok(true)
 }

@@ -12,10 +12,10 @@ returns-clause-runs c done =
     let second = c.bytes_of.result.now in
     let len = c.stored_len.ensures.len in
     let stores = c.moves_stored.ensures.moves.0 c.if-not-moves_stored.false in
-    stored-runs c.args.sets.now c.args.linkage c.args.instr.now c.args.before.now m (record m { window = c.write_bytes.new.window }) c.args.segments.now c.write_bytes.new.segments at c.registers.result.0.now second
+    stored-runs c.args.sets.now c.args.linkage c.args.instr.now c.args.before.now m (record m { window = c.write_held.new.window }) c.args.segments.now c.write_held.new.segments at c.registers.result.0.now second
     (subst (IsSet c.args.sets.now) c.empty.ensures.zero c.empty.ensures.set) c.requires.registers stores (c.moves_stored.ensures.results stores)
     (subst (λ (k : ℕ). k ≤ 8) len c.stored_len.ensures.few)
     (sym c.accessed.ensures ∙ c.in-Some.is)
-    (subst (λ (k : ℕ). PutsWindow at (take k second) m.window c.write_bytes.new.window) len c.in_ok-write_bytes.ensures.window)
-    (subst (λ (k : ℕ). WritesSegment at (take k second) m.segment c.args.segments.now c.write_bytes.new.segments) len c.in_ok-write_bytes.ensures.segment)
+    (subst (λ (k : ℕ). PutsWindow at (take k second) m.window c.write_held.new.window) len c.in_ok-write_held.ensures.window)
+    (subst (λ (k : ℕ). WritesSegment at (take k second) m.segment c.args.segments.now c.write_held.new.segments) len c.in_ok-write_held.ensures.segment)
     refl c.registers.ensures.first (subst (λ (r : ℕ). IsRegister m.registers r second) c.rs2.ensures c.bytes_of.ensures)

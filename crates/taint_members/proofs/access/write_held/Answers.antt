@@ -4,7 +4,7 @@ use Rattle.acts_model.specs.Transfers.{is_private, is_shared}
 use Rattle.taint_pages.specs.Pages.{Puts}
 use Rattle.taint_members.specs.Access.{WritesHeld}
 use Rattle.taint_members.proofs.Writes.{from-some, from-none, not-shared, on-ok, on-ok-all, where-false, where-true}
-use Rattle.taint_members.proofs.access.write_bytes.Goals as goal
+use Rattle.taint_members.proofs.access.write_held.Goals as goal
 
 pub returns-in-Some-clause-window : goal.returns-in-Some-clause-window
 returns-in-Some-clause-window c =
