@@ -23,8 +23,8 @@ fn can_wait(number: u64) -> bool
 }
 
 impl<'a> Tables<'a> {
-    /// Whether a process stands at a call that isn't ready. Its memory is read only where the number of the call, if it
-    /// stands at one, is that of calls that aren't always ready.
+    /// Whether a process stands at a call that isn't ready. Its memory is read only where its call number is one that
+    /// may wait.
     pub fn waits(&self, pid: u32) -> bool
         requires { IsLive self.now.guests pid }
         ensures { OfTables self.now pid (λ m v. result ≡ waits m pid v) }
@@ -35,7 +35,7 @@ impl<'a> Tables<'a> {
         self.waits_there(pid)
     }
 
-    // The same of any process.
+    // The same, with a look at the instruction at which it stands.
     fn waits_there(&self, pid: u32) -> bool
         requires { IsLive self.now.guests pid }
         ensures { OfTables self.now pid (λ m v. result ≡ waits m pid v) }
