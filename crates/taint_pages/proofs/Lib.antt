@@ -1,3 +1,4 @@
 mod Carrying
 mod Flat
+mod Marks
 mod Zeros

@@ -36,6 +36,10 @@ PutsBytes reg numbers old new = (r i : ℕ) → i < 8 → byte_in new r i ≡ (i
 abbrev pub ClearsBytes : ℕ → List ℕ → List ℕ → Type 0
 ClearsBytes reg old new = (r i : ℕ) → i < 8 → byte_in new r i ≡ (if r == reg then 0 else byte_in old r i)
 
+-- all bytes of one register have the numbers of those of another
+abbrev pub CopiesBytes : ℕ → ℕ → List ℕ → List ℕ → Type 0
+CopiesBytes source reg old new = (r i : ℕ) → i < 8 → byte_in new r i ≡ (if r == reg then byte_in old source i else byte_in old r i)
+
 -- number i of so many from a place on, 0 behind them
 abbrev pub number_from : List ℕ → ℕ → ℕ → ℕ → ℕ
 number_from numbers at count i = if nat_lt i count then slice_index numbers (at + i) else 0

@@ -1,7 +1,7 @@
 // The numbers of the bytes of registers.
-ghost use Rattle.std.specs.Prelude.{◌≡◌, ◌<◌, ◌≤◌, ◌+◌, ◌*◌, ◌↔◌, ℕ, IsTrue, false, length, slice_index, IfOk, OnOk};
+ghost use Rattle.std.specs.Prelude.{◌≡◌, ◌<◌, ◌≤◌, ◌+◌, ◌*◌, ◌↔◌, ℕ, IsTrue, false, true, length, slice_index, slice_set, IfOk, OnOk};
 ghost use Rattle.taint_spans.specs.Carried.{CarriesOn, HaveNumbers};
-ghost use Rattle.taint_pages.specs.Rows.{AreBytes, ClearsBytes, PutsBytes, SetsByte, byte_in};
+ghost use Rattle.taint_pages.specs.Rows.{AreBytes, ClearsBytes, CopiesBytes, PutsBytes, SetsByte, byte_in};
 
 use arn_base::NoMemory;
 use rv64_isa::Reg;
@@ -39,6 +39,42 @@ impl Model for Row {
 
     ghost invariant = { λ r. IsRow r.kept.value.numbers
         × AreMarked r.kept.value.numbers r.kept.value.marked };
+}
+
+impl Numbers {
+    /// Sets the numbers of the first bytes of a register, at most eight, and 0 for the others, and its mark.
+    #[inline(always)]
+    fn put(&mut self, reg: Reg, numbers: &[u32], mark: bool)
+        requires few { length numbers.now ≤ 8 }
+        ensures puts { PutsBytes reg numbers.now self.old.numbers self.new.numbers }
+        ensures len { length self.new.numbers ≡ length self.old.numbers }
+        ensures marked { self.new.marked ≡ slice_set self.old.marked reg mark }
+    {
+        let start = place(reg, 0);
+        for byte in 0..8 {
+            self.numbers[start + byte] = if byte < numbers.len() {
+                numbers[byte]
+            } else {
+                0
+            };
+        }
+        self.marked[usize::from(reg.number())] = mark;
+    }
+
+    /// Gives each byte of a register the number of that of another one in its place, and marks it.
+    #[inline(always)]
+    fn copy_bytes(&mut self, from: Reg, to: Reg)
+        ensures copies { CopiesBytes from to self.old.numbers self.new.numbers }
+        ensures len { length self.new.numbers ≡ length self.old.numbers }
+        ensures marked { self.new.marked ≡ slice_set self.old.marked to true }
+    {
+        let source = place(from, 0);
+        let start = place(to, 0);
+        for byte in 0..8 {
+            self.numbers[start + byte] = self.numbers[source + byte];
+        }
+        self.marked[usize::from(to.number())] = true;
+    }
 }
 
 /// Whether each of these numbers is 0.
@@ -136,10 +172,7 @@ impl Row {
         requires above { 0 < reg }
         ensures { ClearsBytes reg self.old self.new }
     {
-        for byte in 0..8 {
-            self.set(reg, byte, 0);
-        }
-        self.kept.marked[usize::from(reg.number())] = false;
+        self.kept.put(reg, &[], false);
     }
 
     /// The numbers of the eight bytes of a register.
@@ -158,54 +191,51 @@ impl Row {
         requires eight { length numbers.now ≡ 8 }
         ensures { PutsBytes reg numbers.now self.old self.new }
     {
-        if are_zero(numbers) {
-            self.clear(reg);
-        } else {
-            self.put_each(reg, numbers);
-        }
+        self.put_few(reg, &numbers[..8]);
     }
 
-    /// The same, one byte after the other.
-    #[inline(always)]
-    fn put_each(&mut self, reg: Reg, numbers: &[u32])
-        requires above { 0 < reg }
-        requires eight { length numbers.now ≡ 8 }
-        ensures { PutsBytes reg numbers.now self.old self.new }
-    {
-        for byte in 0..8 {
-            self.set(reg, byte, numbers[byte as usize]);
-        }
-    }
-
-    /// Sets the numbers of the first bytes of a register that isn't x0, at most eight, and 0 for the others.
+    /// Sets the numbers of the first bytes of a register that isn't x0, at most eight, and 0 for the others. Each length that an
+    /// instruction loads is compiled by itself.
     #[inline(always)]
     pub(crate) fn put_first(&mut self, reg: Reg, numbers: &[u32])
         requires above { 0 < reg }
         requires few { length numbers.now ≤ 8 }
         ensures { PutsBytes reg numbers.now self.old self.new }
     {
-        if are_zero(numbers) {
-            self.clear(reg);
-        } else {
-            self.put_each_first(reg, numbers);
+        match numbers.len() {
+            1 => self.put_few(reg, &numbers[..1]),
+            2 => self.put_few(reg, &numbers[..2]),
+            4 => self.put_few(reg, &numbers[..4]),
+            8 => self.put_few(reg, &numbers[..8]),
+            _ => self.put_few(reg, numbers),
         }
     }
 
-    /// The same, one byte after the other.
+    /// The same, for one length.
     #[inline(always)]
-    fn put_each_first(&mut self, reg: Reg, numbers: &[u32])
+    fn put_few(&mut self, reg: Reg, numbers: &[u32])
         requires above { 0 < reg }
         requires few { length numbers.now ≤ 8 }
         ensures { PutsBytes reg numbers.now self.old self.new }
     {
-        for byte in 0..8 {
-            let place = usize::from(byte);
-            let number = if place < numbers.len() {
-                numbers[place]
-            } else {
-                0
-            };
-            self.set(reg, byte, number);
+        if are_zero(numbers) {
+            self.clear(reg);
+        } else {
+            self.kept.put(reg, numbers, true);
+        }
+    }
+
+    /// Gives each byte of a register that isn't x0 the number of that of another one in its place.
+    #[inline(always)]
+    pub fn copy_register(&mut self, from: Reg, to: Reg)
+        requires above { 0 < to }
+        ensures copies { CopiesBytes from to self.old self.new }
+        ensures zero { from ≡ 0 → ClearsBytes to self.old self.new }
+    {
+        if self.is_clear(from) {
+            self.clear(to);
+        } else {
+            self.kept.copy_bytes(from, to);
         }
     }
 }

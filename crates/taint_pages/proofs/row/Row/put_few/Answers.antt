@@ -1,0 +1,7 @@
+use Rattle.std.proofs.Common.{true, slice_index}
+use Rattle.taint_pages.proofs.Marks.{kept-written}
+use Rattle.taint_pages.proofs.row.Row.put_few.Goals as goal
+
+pub invariant_of-self : goal.invariant_of-self
+invariant_of-self c =
+    kept-written c.self.inside.kept.value c.deref_mut.result.now c.put.new.self c.args.reg true (λ i. slice_index c.args.numbers.now i) c.deref_mut.ensures.value c.self.invariant c.requires.above c.put.ensures.len c.put.ensures.puts c.put.ensures.marked (λ e i h. cc)
