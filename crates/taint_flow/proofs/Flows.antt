@@ -49,7 +49,7 @@ pub by-table : (r : Result (List ℕ) NoMemory) (old new : Numbered) (number : O
 by-table r old new number taken table h1 h2 = grind (arith, nat_tests)
 
 -- the set of one operand
-one-of : (sets : Numbered) (number : Operand → ℕ) (x : Operand) (set : ℕ) → set ≡ number x → IsSet sets (number x) → TakesOperands sets sets number (x ∷ []) set
+pub one-of : (sets : Numbered) (number : Operand → ℕ) (x : Operand) (set : ℕ) → set ≡ number x → IsSet sets (number x) → TakesOperands sets sets number (x ∷ []) set
 one-of sets number x set h1 h2 = grind (arith, nat_tests, only)
 
 module _ (sets : Numbered) (number : Operand → ℕ) (is_set : IsSet sets 0) (empty : members_of sets 0 ≡ []) where

@@ -37,6 +37,11 @@ pub record Extends (numbers : List ℕ) (width : ℕ) (extended : List ℕ) : Ty
   pub len : length extended ≡ byte_count
   pub same : (byte : ℕ) → byte < byte_count → slice_index extended byte ≡ slice_index numbers (within_width width byte)
 
+-- those of the first register
+abbrev pub IsFirst : Flow → Type 0
+IsFirst First = Unit {0}
+IsFirst other = ⊥
+
 -- the bytes that are loaded, and nothing behind them
 abbrev pub IsMemory : Flow → Type 0
 IsMemory (Memory len) = Unit {0}

@@ -3,8 +3,8 @@ ghost use Rattle.std.specs.Prelude.{◌≡◌, ◌≢◌, ◌↔◌, ◌==◌, �
 ghost use Rattle.rv64_isa.specs.declared.instruction.Instr.TheVariants as instr;
 ghost use Rattle.rv64_model.specs.Carries.{operands};
 ghost use Rattle.rv64_model.specs.declared.linkage.Linkage.TheVariants.{Index};
-ghost use Rattle.taint_flow.specs.Flow.{IsFlow, IsMemory, IsSecond};
-ghost use Rattle.taint_flow.specs.Moving.{Fills};
+ghost use Rattle.taint_flow.specs.Flow.{IsFirst, IsFlow, IsMemory, IsSecond};
+ghost use Rattle.taint_flow.specs.Moving.{Fills, Keeps};
 ghost use Rattle.taint_flow.specs.declared.flow.Flow.TheVariants.{Nothing};
 
 use rv64_isa::{ImmOp, Instr, LoadOp, Reg, RegOp, StoreOp};
@@ -79,9 +79,11 @@ pub fn of_store(linkage: Linkage, op: StoreOp) -> Flow
     }
 }
 
+/// Where the bytes of a register come from that is worked out from another one and a number, and isn't x0.
 #[inline(always)]
-fn of_immediate(linkage: Linkage, op: ImmOp, imm: i64) -> Flow
-    ensures { (rd rs1 : ℕ) → IsFlow result (operands linkage (instr.Imm op (suc rd) rs1 imm)) }
+pub fn of_immediate(linkage: Linkage, op: ImmOp, imm: i64) -> Flow
+    ensures moves { IsFirst result ↔ Keeps linkage op imm }
+    ensures flow { (rd rs1 : ℕ) → IsFlow result (operands linkage (instr.Imm op (suc rd) rs1 imm)) }
 {
     match (linkage, op) {
         (_, ImmOp::Addi) if imm == 0 => Flow::First,

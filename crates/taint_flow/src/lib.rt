@@ -8,6 +8,6 @@ mod names;
 mod working;
 mod writing;
 
-pub use moving::{moves_loaded, moves_stored};
+pub use moving::{moves_loaded, moves_register, moves_stored};
 pub use names::{loaded_len, rd, rs1, rs2, stored_len};
 pub use writing::{is_silent, results, takes_nothing};

@@ -40,11 +40,11 @@ word-sums : (linkage : Linkage) (imm : ℤ) → (linkage ≡ Copy → ⊥) → (
 word-sums Copy imm not rd rs1 = absurd (not refl)
 word-sums other imm not rd rs1 = (four, λ i. of_left-both (below (reach 4 i)) (below (reach 4 i)))
 
-pub returns-in_default-Addi-2 : goal.returns-in_default-Addi-2
-returns-in_default-Addi-2 c rd rs1 =
+pub returns-in_default-Addi-2-clause-flow : goal.returns-in_default-Addi-2-clause-flow
+returns-in_default-Addi-2-clause-flow c rd rs1 =
     subst (λ op. IsFlow (Rising 8) (operands c.args.linkage (Imm op (suc rd) rs1 c.args.imm))) (sym c.in_default-Addi-2.is-1)
     (sums c.args.linkage c.args.imm c.in_default-Addi-2.not-Copy-0 c.if-imm-eq0.false rd rs1)
 
-pub returns-in_default-Addiw : goal.returns-in_default-Addiw
-returns-in_default-Addiw c rd rs1 =
+pub returns-in_default-Addiw-clause-flow : goal.returns-in_default-Addiw-clause-flow
+returns-in_default-Addiw-clause-flow c rd rs1 =
     subst (λ op. IsFlow (Rising 4) (operands c.args.linkage (Imm op (suc rd) rs1 c.args.imm))) (sym c.in_default-Addiw.is-1) (word-sums c.args.linkage c.args.imm c.in_default-Addiw.not-Copy-0 rd rs1)

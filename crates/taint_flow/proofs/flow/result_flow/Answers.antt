@@ -44,7 +44,7 @@ pub returns-in-Imm : goal.returns-in-Imm
 returns-in-Imm c =
     let i = c.in-Imm in
     let fits : SFits w64 i.imm = search rules in
-    let known = subst (λ imm. (rd rs1 : ℕ) → IsFlow c.of_immediate.result (operands c.args.linkage (Imm i.op (suc rd) rs1 imm))) (to_z-of_z w64 i.imm fits) c.of_immediate.ensures in
+    let known = subst (λ imm. (rd rs1 : ℕ) → IsFlow c.of_immediate.result (operands c.args.linkage (Imm i.op (suc rd) rs1 imm))) (to_z-of_z w64 i.imm fits) c.of_immediate.ensures.flow in
     subst (λ instr. IsFlow c.unless_x0-in-Imm.result (operands c.args.linkage instr)) (sym i.is)
     (unless-x0 c.of_immediate.result c.unless_x0-in-Imm.result i.rd (λ rd. operands c.args.linkage (Imm i.op rd i.rs1 i.imm)) c.unless_x0-in-Imm.ensures (imm-x0 c.args.linkage i.op i.rs1 i.imm) (λ rd. known rd i.rs1))
 
