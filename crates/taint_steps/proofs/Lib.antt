@@ -1,3 +1,4 @@
+pub mod Apart
 pub mod Entries
 pub mod NothingLoaded
 pub mod NothingStored

@@ -1,6 +1,7 @@
-// Instructions that move sets as they are between a register and memory.
+// Instructions that move sets as they are, between a register and memory or from one register to another.
 ghost use Rattle.std.specs.Prelude.{◌≡◌, ◌<◌, ◌≤◌, IsTrue, false, length, IfOk};
-ghost use Rattle.taint_members.specs.Access.{HoldsKey, PutsRead};
+ghost use Rattle.arn_base.specs.declared.machine.Cpu.{Cpu as AnyCpu};
+ghost use Rattle.taint_members.specs.Access.{HoldsKey, PutsRead, Segments};
 ghost use Rattle.taint_steps.specs.Running.{Runs};
 ghost use Rattle.taint_steps.specs.Taking.{AreSetsAt, AreSetsIn};
 
@@ -9,7 +10,9 @@ use arn_base::{Cpu, NoMemory};
 use rv64_core::accessed;
 use rv64_isa::{Instr, Reg};
 use rv64_model::Linkage;
-use taint_flow::{loaded_len, moves_loaded, moves_stored, rd, rs2, stored_len};
+use taint_flow::{
+    loaded_len, moves_loaded, moves_register, moves_stored, rd, rs1, rs2, stored_len,
+};
 use taint_members::{MemberSets, load_register, write_held};
 use taint_pages::SetNumbers;
 use taint_spans::SpanSets;
@@ -94,4 +97,33 @@ pub fn move_stored(
     let numbers = &bytes_of(&member.registers, rs2(instr))[..stored_len(instr)];
     write_held(&mut member.window, member.segment, segments, at, numbers)?;
     Ok(true)
+}
+
+/// Moves the sets of a register's bytes to the register that an instruction writes, if that is all
+/// that it does to sets. False says that nothing was done.
+#[inline(always)]
+pub fn move_register(
+    sets: &SpanSets,
+    linkage: Linkage,
+    instr: &Instr,
+    member: &mut MemberSets,
+) -> bool
+    requires registers { AreSetsIn sets.now member.old.registers }
+    ensures runs { IsTrue result → (before : AnyCpu) (segments : Segments) → Runs linkage instr.now before
+        member.old member.new segments segments sets.now sets.now }
+    ensures kept { result ≡ false → member.new ≡ member.old }
+{
+    if !moves_register(linkage, instr) {
+        return false;
+    }
+    let _ = sets.empty();
+    let _ = registers(instr, member);
+    let Some(from) = rs1(instr) else {
+        return false;
+    };
+    let Some(to) = rd(instr) else {
+        return false;
+    };
+    member.registers.copy_register(from, to);
+    true
 }

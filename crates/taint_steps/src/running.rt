@@ -7,7 +7,7 @@ ghost use Rattle.taint_members.specs.Access.{HoldsKey};
 ghost use Rattle.taint_steps.specs.Running.{Runs, StoresSegment, StoresWindow, WritesRegister};
 ghost use Rattle.taint_steps.specs.Taking.{AreSetsAt, AreSetsIn, IsRegister};
 
-use crate::moving::{move_loaded, move_stored};
+use crate::moving::{move_loaded, move_register, move_stored};
 use crate::taking::{registers, taken};
 use arn_base::{Cpu, NoMemory};
 use rv64_core::accessed;
@@ -153,6 +153,9 @@ pub fn run(
     takes_nothing(sets);
     if is_silent(sets, linkage, instr) {
         clear_register(&mut member.registers, rd(instr));
+        return Ok(());
+    }
+    if move_register(sets, linkage, instr, member) {
         return Ok(());
     }
     if move_loaded(sets, linkage, instr, before, member, segments) {

@@ -1,4 +1,4 @@
-use Rattle.std.proofs.Common.{◌≡◌, ℕ, List, Option, None, take, unwrap_or, refl, sym, subst, ◌∙◌}
+use Rattle.std.proofs.Common.{◌≡◌, ℕ, List, Option, None, unwrap_or, sym, subst, ◌∙◌}
 use Rattle.arn_base.specs.declared.machine.Cpu.{Cpu}
 use Rattle.rv64_isa.specs.declared.instruction.Instr.{Instr}
 use Rattle.rv64_model.specs.declared.linkage.Linkage.{Linkage}
@@ -8,43 +8,21 @@ use Rattle.taint_spans.specs.Numbered.{Numbered}
 use Rattle.taint_flow.specs.Gathered.{number_of}
 use Rattle.taint_flow.specs.Results.{AreResults}
 use Rattle.taint_flow.specs.Silent.{AreEmpty}
-use Rattle.taint_flow.specs.Names.{loaded_len}
 use Rattle.taint_members.specs.Access.{Segments}
 use Rattle.taint_members.specs.declared.member.MemberSets.{MemberSets}
-use Rattle.taint_steps.specs.Running.{Runs, StoresSegment, StoresWindow, WritesRegister}
-use Rattle.taint_steps.specs.Taking.{IsRead, IsRegister, no_bytes}
-use Rattle.taint_steps.proofs.NothingLoaded.{all-zero, first-none, nothing}
+use Rattle.taint_steps.specs.Running.{Runs, WritesRegister}
+use Rattle.taint_steps.specs.Taking.{IsRegister}
+use Rattle.taint_steps.proofs.Apart.{apart-runs}
+use Rattle.taint_steps.proofs.NothingLoaded.{all-zero, nothing}
 use Rattle.taint_steps.proofs.running.run.Goals as goal
 
--- nothing is stored where no memory is accessed
-no-window : (at : Option ℕ) (numbers : List ℕ) (m n : MemberSets) → at ≡ None → n.window ≡ m.window → StoresWindow at numbers m n
-no-window at numbers m n e same = subst (λ o. StoresWindow o numbers m n) (sym e) same
-
-no-segment : (at : Option ℕ) (numbers : List ℕ) (m : MemberSets) (segments : Segments) → at ≡ None → StoresSegment at numbers m.segment segments segments
-no-segment at numbers m segments e = subst (λ o. StoresSegment o numbers m.segment segments segments) (sym e) refl
-
 -- nothing is taken: the register has the empty sets, if one is written
-module _ (sets : Numbered) (linkage : Linkage) (instr : Instr) (before : Cpu) (m : MemberSets) (row : List ℕ) (segments : Segments) (first second : List ℕ) (rd : Option ℕ)
-    (is_rd : unwrap_or rd 0 ≡ named.rd_of instr) (apart : named.accessed instr before ≡ None)
-    (of_first : IsRegister m.registers (named.rs1_of instr) first) (of_second : IsRegister m.registers (named.rs2_of instr) second)
-    (results : AreResults sets sets (number_of first second nothing) (operands linkage instr) nothing) (writes : WritesRegister (unwrap_or rd 0) nothing m.registers row) where
-  cleared : Runs linkage instr before m (record m { registers = row }) segments segments sets sets
-  cleared = record {
-    numbers = nothing;
-    takes = record {
-      first = first;
-      second = second;
-      loaded = nothing;
-      of_first = of_first;
-      of_second = of_second;
-      read = subst (λ o. IsRead o (loaded_len instr) m segments nothing) (sym apart) (first-none no_bytes);
-      results = results;
-    };
-    register = subst (λ r. WritesRegister r nothing m.registers row) is_rd writes;
-    window = no-window (named.accessed instr before) (take (named.stored_len instr) nothing) m (record m { registers = row }) apart refl;
-    segment = no-segment (named.accessed instr before) (take (named.stored_len instr) nothing) m segments apart;
-    others = refl;
-  }
+cleared : (sets : Numbered) (linkage : Linkage) (instr : Instr) (before : Cpu) (m : MemberSets) (row : List ℕ) (segments : Segments) (first second : List ℕ) (rd : Option ℕ) → unwrap_or rd 0 ≡ named.rd_of instr
+    → named.accessed instr before ≡ None → IsRegister m.registers (named.rs1_of instr) first → IsRegister m.registers (named.rs2_of instr) second
+    → AreResults sets sets (number_of first second nothing) (operands linkage instr) nothing → WritesRegister (unwrap_or rd 0) nothing m.registers row
+    → Runs linkage instr before m (record m { registers = row }) segments segments sets sets
+cleared sets linkage instr before m row segments first second rd is_rd apart of_first of_second results writes =
+    apart-runs sets linkage instr before m row segments first second nothing apart of_first of_second results (subst (λ r. WritesRegister r nothing m.registers row) is_rd writes)
 
 pub returns-then-is_silent-clause-runs : goal.returns-then-is_silent-clause-runs
 returns-then-is_silent-clause-runs c =
@@ -74,5 +52,5 @@ returns-then-reads_nothing-clause-runs c =
     let told = c.if-reads_nothing.true in
     kept-cleared c.args.sets.now c.args.linkage c.args.instr.now c.args.before.now c.args.member.now c.clear_register-then-reads_nothing.new.row c.args.segments.now c.registers.result.0.now c.registers.result.1.now
     c.rd-then-reads_nothing.result c.rd-then-reads_nothing.ensures (c.reads_nothing.ensures.apart told) c.registers.ensures.first c.registers.ensures.second c.takes_nothing.ensures
-    c.move_stored.new.member c.move_stored.new.segments (c.in_ok-move_stored.ensures.member c.if-branch.false ∙ c.move_loaded.ensures.kept c.if-move_loaded.false) (c.in_ok-move_stored.ensures.segments c.if-branch.false)
+    c.move_stored.new.member c.move_stored.new.segments (c.in_ok-move_stored.ensures.member c.if-branch.false ∙ c.move_loaded.ensures.kept c.if-move_loaded.false ∙ c.move_register.ensures.kept c.if-move_register.false) (c.in_ok-move_stored.ensures.segments c.if-branch.false)
     (c.reads_nothing.ensures.first told) (c.reads_nothing.ensures.second told) c.clear_register-then-reads_nothing.ensures
