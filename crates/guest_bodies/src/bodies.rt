@@ -20,6 +20,7 @@ use crate::held;
 use crate::running::Stood;
 use crate::starting::First;
 use crate::table::{fork, make_room, release};
+use crate::told::Slice;
 use crate::windows::window_of;
 use acts_model::Observer;
 use arn_base::{BadAddress, Blocks, Bytes, Cpu, NoMemory, Start, Steps};
@@ -149,7 +150,11 @@ impl Bodies {
         ensures watches { KeepsWatches self.old self.new }
     {
         match &mut self.guests[pid as usize] {
-            Some(guest) => held::run_told(guest, &mut self.segments, pid, count, observer, steps),
+            Some(guest) => {
+                let slice = Slice { pid, count };
+                let (segments, decoder) = (&mut self.segments, &mut self.decoder);
+                held::run_told(guest, segments, slice, observer, decoder, steps)
+            }
             None => unreachable!(),
         }
     }

@@ -6,8 +6,16 @@ ghost use Rattle.rv64_model.specs.Instruction.{instruction};
 
 use acts_model::Observer;
 use arn_base::{Cpu, Memory, NoMemory, Steps};
-use rv64_core::{Prospect, execute, next_instr};
+use rv64_core::{Decoder, Prospect, execute, next_instr_with};
+use rv64_isa::Instr;
 use std::sync::ledger::Ledger;
+
+/// A process, and for at most how many instructions it goes on.
+#[derive(Clone, Copy, Debug)]
+pub struct Slice {
+    pub pid: u32,
+    pub count: u32,
+}
 
 /// Runs so many instructions, or fewer where the next one doesn't follow, and says how many. The
 /// observer is told of each before it. The one at which it stops is counted too, and so is one whose
@@ -17,28 +25,35 @@ use std::sync::ledger::Ledger;
 pub fn run_told<M: Memory, O: Observer, L: Ledger>(
     cpu: &mut Cpu,
     memory: &mut M,
-    pid: u32,
-    count: u32,
+    slice: Slice,
     observer: &mut O,
+    decoder: &mut Decoder,
     steps: &mut Steps<L>,
 ) -> Result<u32, NoMemory>
-    ensures told { IfOk result (λ ran. LedMany M.windows O.runs pid ran
+    ensures told { IfOk result (λ ran. LedMany M.windows O.runs slice.pid ran
         cpu.old memory.old observer.old cpu.new memory.new observer.new) }
-    ensures within { IfOk result (λ ran. ran ≤ count) }
-    ensures stops { IfOk result (λ ran. ran < count →
+    ensures within { IfOk result (λ ran. ran ≤ slice.count) }
+    ensures stops { IfOk result (λ ran. ran < slice.count →
         IsStop (instruction cpu.new (M.windows memory.new))) }
-    ensures counted { IfOk result (λ ran. ran ≡ count → steps.new ≡ steps.old + ran) }
-    ensures stopped { IfOk result (λ ran. ran < count → steps.new ≡ steps.old + ran + 1) }
-    ensures failed { OnErr result (LedFails M.windows O.runs pid count
+    ensures counted { IfOk result (λ ran. ran ≡ slice.count → steps.new ≡ steps.old + ran) }
+    ensures stopped { IfOk result (λ ran. ran < slice.count → steps.new ≡ steps.old + ran + 1) }
+    ensures failed { OnErr result (LedFails M.windows O.runs slice.pid slice.count
         cpu.old memory.old observer.old cpu.new memory.new steps.old steps.new) }
-    ensures bounded { steps.new ≤ steps.old + count }
+    ensures bounded { steps.new ≤ steps.old + slice.count }
 {
-    for ran in 0..count {
-        let Prospect::Next(planned) = next_instr(cpu, memory, steps) else {
+    for ran in 0..slice.count {
+        let Prospect::Next(planned) = next_instr_with(cpu, memory, decoder, steps) else {
             return Ok(ran);
         };
-        observer.instruction(pid, &planned.instr, cpu)?;
+        // What the observer does with each kind of instruction is compiled by itself.
+        match planned.instr {
+            Instr::Load { .. } => observer.instruction(slice.pid, &planned.instr, cpu)?,
+            Instr::Store { .. } => observer.instruction(slice.pid, &planned.instr, cpu)?,
+            Instr::Imm { .. } => observer.instruction(slice.pid, &planned.instr, cpu)?,
+            Instr::Op { .. } => observer.instruction(slice.pid, &planned.instr, cpu)?,
+            _ => observer.instruction(slice.pid, &planned.instr, cpu)?,
+        }
         execute(&planned, cpu, memory)?;
     }
-    Ok(count)
+    Ok(slice.count)
 }

@@ -1,5 +1,5 @@
 // Loads and stores.
-ghost use Rattle.std.specs.Prelude.{◌≡◌, ◌≢◌, ◌<◌, ◌↔◌, ℕ, IsTrue, IsSome, IsNone, Err, OnOk, OnErr, option_map};
+ghost use Rattle.std.specs.Prelude.{◌≡◌, ◌≢◌, ◌<◌, ◌*◌, ◌^◌, ◌↔◌, ℕ, IsTrue, IsSome, IsNone, Err, OnOk, OnErr, option_map};
 ghost use Rattle.std.specs.Result.{result_ok};
 ghost use Rattle.arn_base.specs.Window.{bytes_at, bytes_of, number_at, with_bytes};
 ghost use Rattle.rv64_isa.specs.declared.instruction.Instr.{Instr};
@@ -14,7 +14,7 @@ use crate::outcome::{Outcome, Prospect};
 use arn_base::{BadAddress, Cpu, Memory, StoreError};
 use rv64_isa::{Instr, LoadOp, Reg, StoreOp};
 use rv64_model::statuses::BAD_ACCESS;
-use rv64_model::store_len;
+use rv64_model::{load_len, store_len};
 
 // Loads a register from an address.
 #[inline(always)]
@@ -47,6 +47,31 @@ fn loaded<M: Memory>(op: LoadOp, at: u64, mem: &M) -> Result<u64, BadAddress>
         LoadOp::Lhu => mem.load(at, 2)?,
         LoadOp::Lwu => mem.load(at, 4)?,
     })
+}
+
+// The same, compiled once for all operations: whoever looks ahead becomes so small that it's compiled
+// into a loop.
+#[inline(always)]
+fn loaded_by_len<M: Memory>(op: LoadOp, at: u64, mem: &M) -> Result<u64, BadAddress>
+    ensures { result_ok result ≡
+        option_map (load_result_of op) (number_at (M.windows mem.now) at (load_len_of op)) }
+{
+    let number = mem.load(at, load_len(op))?;
+    Ok(load_result(op, number))
+}
+
+// The value of a register after a load of this number.
+#[inline(always)]
+fn load_result(op: LoadOp, number: u64) -> u64
+    requires { number < 2 ^ (8 * load_len_of op) }
+    ensures { result ≡ load_result_of op number }
+{
+    match op {
+        LoadOp::Lb => i64::from((number as u8).cast_signed()).cast_unsigned(),
+        LoadOp::Lh => i64::from((number as u16).cast_signed()).cast_unsigned(),
+        LoadOp::Lw => i64::from((number as u32).cast_signed()).cast_unsigned(),
+        LoadOp::Ld | LoadOp::Lbu | LoadOp::Lhu | LoadOp::Lwu => number,
+    }
 }
 
 // Stores the low bytes of a value at an address.
@@ -110,7 +135,7 @@ pub(crate) fn load_ahead<M: Memory>(
         let value = option_map (load_result_of op) (number_at memory at (load_len_of op)) in
         Foretells result cpu.now (loads instr cpu.now memory rd value) }
 {
-    match loaded(op, at, mem) {
+    match loaded_by_len(op, at, mem) {
         Ok(value) => write_ahead(instr, cpu, rd, value),
         Err(_) => Prospect::End(BAD_ACCESS),
     }

@@ -16,4 +16,4 @@ mod values;
 pub use decoder::Decoder;
 pub use execution::{accessed, execute};
 pub use outcome::{Outcome, Planned, Prospect};
-pub use stepping::{is_at_call, next_instr, step, step_with};
+pub use stepping::{is_at_call, next_instr, next_instr_with, step, step_with};

@@ -75,6 +75,24 @@ pub fn next_instr<M: Memory, L: Ledger>(cpu: &Cpu, mem: &M, steps: &mut Steps<L>
     }
 }
 
+/// The same as `next_instr`, with a decoder that may remember the word.
+#[inline(always)]
+pub fn next_instr_with<M: Memory, L: Ledger>(
+    cpu: &Cpu,
+    mem: &M,
+    decoder: &mut Decoder,
+    steps: &mut Steps<L>,
+) -> Prospect
+    ensures tick { steps.new ≡ steps.old + 1 }
+    ensures effect { Foretells result cpu.now (instruction cpu.now (M.windows mem.now)) }
+{
+    steps.tick();
+    match instr_with(cpu, mem, decoder) {
+        Ok(instr) => look_ahead(instr, cpu, mem),
+        Err(status) => Prospect::End(status),
+    }
+}
+
 /// Whether an ECALL stands at pc. It is not counted.
 pub fn is_at_call<M: Memory>(cpu: &Cpu, mem: &M) -> bool
     ensures { IsTrue result ↔ (instruction cpu.now (M.windows mem.now) ≡ Call) }
