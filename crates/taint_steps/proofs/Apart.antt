@@ -1,5 +1,5 @@
 -- Instructions that access no memory: what is taken goes to a register alone.
-use Rattle.std.proofs.Common.{◌≡◌, ℕ, zero, suc, ◌<◌, ◌==◌, ◌&&◌, Bool, true, false, nat_lt, if◌then◌else◌, List, take, slice_index, Option, None, refl, sym, subst, ◌∙◌, arith}
+use Rattle.std.proofs.Common.{◌≡◌, ℕ, zero, suc, ◌<◌, ◌==◌, ◌&&◌, Bool, true, false, nat_lt, if◌then◌else◌, List, take, slice_index, Option, None, unwrap_or, refl, sym, subst, ◌∙◌, arith}
 use Rattle.std.proofs.lemmas.Bool.{lt-ltb, eqb-true}
 use Rattle.arn_base.specs.declared.machine.Cpu.{Cpu}
 use Rattle.rv64_isa.specs.declared.instruction.Instr.{Instr}
@@ -86,3 +86,11 @@ module _ (sets : Numbered) (linkage : Linkage) (instr : Instr) (before : Cpu) (m
   copied-runs =
       apart-runs sets linkage instr before m row segments first second first (moves-apart linkage instr before moves) of_first of_second
       (results sets first second nothing (register-numbers sets m.registers (rs1_of instr) first empty held of_first)) writes
+
+-- nothing is taken: the register has the empty sets, if one is written
+pub cleared : (sets : Numbered) (linkage : Linkage) (instr : Instr) (before : Cpu) (m : MemberSets) (row : List ℕ) (segments : Segments) (first second : List ℕ) (rd : Option ℕ) → unwrap_or rd 0 ≡ rd_of instr
+    → accessed instr before ≡ None → IsRegister m.registers (rs1_of instr) first → IsRegister m.registers (rs2_of instr) second
+    → AreResults sets sets (number_of first second nothing) (operands linkage instr) nothing → WritesRegister (unwrap_or rd 0) nothing m.registers row
+    → Runs linkage instr before m (record m { registers = row }) segments segments sets sets
+cleared sets linkage instr before m row segments first second rd is_rd apart of_first of_second results writes =
+    apart-runs sets linkage instr before m row segments first second nothing apart of_first of_second results (subst (λ r. WritesRegister r nothing m.registers row) is_rd writes)

@@ -123,6 +123,12 @@ fn run_any(
     ensures before { StandAsBefore sets.old sets.new }
     ensures keys { length segments.new ≡ length segments.old }
 {
+    let _ = registers(&instr, member);
+    takes_nothing(sets);
+    if reads_nothing(&instr, before, &member.registers) {
+        clear_register(&mut member.registers, rd(&instr));
+        return Ok(());
+    }
     let numbers = taken(sets, linkage, &instr, before, member, segments)?;
     write_register(&mut member.registers, rd(&instr), &numbers);
     store(&instr, before, member, segments, &numbers)
@@ -150,7 +156,6 @@ pub fn run(
     // Asked for what is promised of both: nothing is done with them.
     let _ = sets.empty();
     let _ = registers(instr, member);
-    takes_nothing(sets);
     if is_silent(sets, linkage, instr) {
         clear_register(&mut member.registers, rd(instr));
         return Ok(());
@@ -162,10 +167,6 @@ pub fn run(
         return Ok(());
     }
     if move_stored(sets, linkage, instr, before, member, segments)? {
-        return Ok(());
-    }
-    if reads_nothing(instr, before, &member.registers) {
-        clear_register(&mut member.registers, rd(instr));
         return Ok(());
     }
     run_any(sets, linkage, *instr, before, member, segments)

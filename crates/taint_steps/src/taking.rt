@@ -30,8 +30,8 @@ pub fn bytes_of(row: &Row, reg: Option<Reg>) -> &[u32]
     }
 }
 
-/// The numbers of the bytes of both registers that an instruction reads.
-#[inline(always)]
+/// The numbers of the bytes of both registers that an instruction reads. A call whose answer isn't used costs nothing.
+#[inline(never)]
 pub fn registers<'a>(instr: &Instr, member: &'a MemberSets) -> (&'a [u32], &'a [u32])
     ensures first { IsRegister member.now.registers (operands.rs1_of instr.now) result.0.now }
     ensures second { IsRegister member.now.registers (operands.rs2_of instr.now) result.1.now }
