@@ -20,13 +20,12 @@ use Rattle.session_runs.specs.Points.{Advances, Stops, Surroundings}
 use Rattle.session_runs.specs.Touches.{Answering}
 use Rattle.session_runs.specs.Turns.{Point}
 use Rattle.session_commands.specs.Given.{Given}
-use Rattle.arn_session.specs.Answered.{AnswersParts, AnswersTaken}
-use Rattle.arn_session.specs.Begun.{BeginsOn, FindsOn, standing}
+use Rattle.session_text.specs.Answered.{AnswersParts, AnswersTaken}
+use Rattle.session_text.specs.Begun.{BeginsOn, FindsOn, standing}
 use Rattle.arn_session.specs.Opening.{HasOpened, IsOpened}
 use Rattle.arn_session.specs.Status.{open_status_of}
 use Rattle.arn_session.specs.declared.status.Status.{Status}
 use Rattle.arn_session.specs.declared.status.Status.TheVariants as status
-use Rattle.arn_session.proofs.PointLemmas.{Advances-as, Stops-as}
 
 -- the bytes of a log that was opened
 pub told-both : (o : Option (List ℕ)) (history : List Record) (s : Status) → IfSome o (λ bytes. IsLog bytes history) → IfSome o (λ bytes. length bytes ≤ MOST_LOG) → IfSome o (IsOpened s)
@@ -89,13 +88,50 @@ module _ {D : Type 0} (d : Ghosts D) where
 
 module _ {D A : Type 0} (d : Ghosts D) (who : Answering A) (g : Given) (carries : OpenedCarries IsRun d) (halts : BehindHalts IsRun d) (old mid new : D) (h0 h1 : Option (List ℕ)) (u v : Surroundings A) (entries : List Record) (opening : CarriesOut IsRun d old mid entries h0 h0 []) where
   abbrev Advances-opened : (a b : Point) (n : ℕ) → Advances who a b u v n (CarriesOut IsRun d mid new entries h0 h1) → Advances who a b u v n (CarriesOut IsRun d old new entries h0 h1)
-  Advances-opened a b n p =
-      Advances-as who a a b b u v n (CarriesOut IsRun d mid new entries h0 h1) (CarriesOut IsRun d old new entries h0 h1) p p.leads (carries old mid new entries h0 h1 opening p.effects p.carries)
+  Advances-opened a b n p = record {
+    slices = p.slices;
+    touches = p.touches;
+    effects = p.effects;
+    leads = p.leads;
+    names = p.names;
+    unplugged = p.unplugged;
+    begins = p.begins;
+    carries = carries old mid new entries h0 h1 opening p.effects p.carries;
+    picked = p.picked;
+    in_range = p.in_range;
+    touched = p.touched;
+    executed = p.executed;
+  }
 
   abbrev Stops-opened : (why : Halt) (from : Point) (n : ℕ) → Stops IsRun d who mid new entries h0 h1 why from u v n → Stops IsRun d who old new entries h0 h1 why from u v n
-  Stops-opened why from n p =
-      Stops-as d who from from u v n n old mid new entries h0 h1 why (λ slices. refl) (omega arith) p
-      (halts old mid new entries entries h0 h0 h1 why [] p.done p.undone (sym (append-nil entries)) opening p.stopped)
+  Stops-opened why from n p = record {
+    slices = p.slices;
+    lost = p.lost;
+    part = p.part;
+    touches = p.touches;
+    lost_touches = p.lost_touches;
+    part_touches = p.part_touches;
+    done = p.done;
+    undone = p.undone;
+    are_effects = p.are_effects;
+    are_touches = p.are_touches;
+    stopped = halts old mid new entries entries h0 h0 h1 why [] p.done p.undone (sym (append-nil entries)) opening p.stopped;
+    names = p.names;
+    unplugged = p.unplugged;
+    begins = p.begins;
+    names_lost = p.names_lost;
+    unplugged_lost = p.unplugged_lost;
+    without = p.without;
+    spent = p.spent;
+    many = p.many;
+    picked = p.picked;
+    in_range = p.in_range;
+    touched = p.touched;
+    one_part = p.one_part;
+    by_memory = p.by_memory;
+    unmade = p.unmade;
+    executed = p.executed;
+  }
 
   Answers-behind : (parts : List Part) → AnswersParts who g entries parts u v (CarriesOut IsRun d mid new entries h0 h1) → AnswersParts who g entries parts u v (CarriesOut IsRun d old new entries h0 h1)
   Answers-behind parts a = record {

@@ -3,7 +3,6 @@
 
 mod session;
 mod status;
-mod text;
 
 pub use arn_words::{Options, WordsError, read_words};
 pub use session::arnold;

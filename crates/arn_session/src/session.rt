@@ -1,13 +1,9 @@
 // The top call: reads a source to its end, and answers each command of its text to a sink.
-ghost use Rattle.std.specs.Prelude.{◌≡◌, ◌≢◌, ◌⊎◌, ◌+◌, ◌<◌, ◌≤◌, ◌^◌, [], ℕ, List, length, drop, IfNone, IfSome, None, Some};
+ghost use Rattle.std.specs.Prelude.{◌≡◌, ◌≢◌, ◌⊎◌, ◌<◌, ◌≤◌, ◌^◌, [], ℕ, List, length, drop, IfNone, IfSome, None, Some};
 ghost use Rattle.arn_base.specs.Faults.{Rose};
 ghost use Rattle.arn_base.specs.declared.records.Differs.{Differs};
 ghost use Rattle.arn_base.specs.declared.records.Record.{Record};
 ghost use Rattle.arn_commands.specs.Parts.{text_parts, whole_parts};
-ghost use Rattle.arn_session.specs.Answered.{AnswersParts, AnswersTaken, TookAtMost, TookFewer};
-ghost use Rattle.arn_session.specs.Begun.{BeginsOn, FindsOn, slots_answer, standing};
-ghost use Rattle.arn_session.specs.Gone.{WereSpared, WereTouched};
-ghost use Rattle.arn_session.specs.Leaves.{Leaves, scene_of};
 ghost use Rattle.arn_session.specs.Opening.{FailsToOpen, HasBegun, HasOpened, IsOpened, NeverBegan};
 ghost use Rattle.arn_session.specs.Status.{NumbersHold, open_status_of};
 ghost use Rattle.arn_words.specs.Words.{AreAccepted};
@@ -21,26 +17,25 @@ ghost use Rattle.log_store.specs.Stops.{GoesOn, IsOnlyRead, LeavesOnly};
 ghost use Rattle.log_store.specs.declared.errors.OpenError.{OpenError};
 ghost use Rattle.log_store.specs.declared.size.TheConstants.{MOST_LOG};
 ghost use Rattle.session_effects.specs.Carrying.{CarriesOut, HoldsLog, HoldsMore, IsAtRest, IsShut, Keeps, RestsMore};
-ghost use Rattle.session_effects.specs.Outside.{IsSame};
-ghost use Rattle.session_effects.specs.Standing.{IsOpen};
 ghost use Rattle.session_commands.specs.Answering.{IsNoRun};
 ghost use Rattle.session_commands.specs.Given.{given};
 ghost use Rattle.session_questions.specs.OfRuns.{AnswersAreOfRuns, GeneratedIsOfRuns, RunsAreUndamaged, SinksAreOfRuns, VerifyTellsRuns};
 ghost use Rattle.session_questions.specs.Texts.{told};
 ghost use Rattle.session_runs.specs.Points.{around};
-ghost use Rattle.session_runs.specs.Touches.{answering};
+ghost use Rattle.session_text.specs.Answered.{AnswersParts, AnswersTaken, TookAtMost, TookFewer};
+ghost use Rattle.session_text.specs.Begun.{BeginsOn, FindsOn, slots_answer, standing};
+ghost use Rattle.session_text.specs.Gone.{WereSpared, WereTouched};
 
 use crate::status::{Damage, Status};
-use crate::text::session;
 use arn_base::{Chooser, Device, Disk, Sink, Source, Steps};
 use arn_words::{WordsError, read_words};
-use guest_devices::{Plugs, Slots};
+use guest_devices::Slots;
 use history_index::IndexError;
 use log_store::{Store, logs_read_one_way, store_is_short};
 use session_effects::{Halt, Outside, effects_follow, halts_follow, openings_follow};
-use session_model::Questions;
 use session_questions::{Asking, answers_are_of_runs};
 use session_runs::MachineRuns;
+use session_text::answer_in_slots;
 use std::alloc::Global;
 use std::sync::ledger::Ledger;
 
@@ -50,67 +45,6 @@ fn words_error(alloc: Global, words: &[String]) -> Option<WordsError>
     ensures usage { result ≡ Some WordsError.Usage → ¬ AreAccepted words.now }
 {
     read_words(alloc, words).err()
-}
-
-// Answers a text on the history of a log, with those who answer for devices and all else that is lent.
-fn answer_lent<Q: Questions + Drop, C: Chooser, A: Plugs, S: Source, K: Sink, D: Disk, L: Ledger>(
-    alloc: Global,
-    store: Store,
-    questions: Q,
-    source: &mut S,
-    answers: &mut A,
-    outside: &mut Outside<C, (), D, K, L>,
-) -> Result<(), Halt>
-    requires open { IsOpen D.Disk store outside.old.disk.now }
-    requires known { Q.knows questions store.entries }
-    ensures leaves { Leaves D.Disk (answering A.answers A.unplugs A.filled)
-        (given Q.told (A.filled answers.old)) store.entries result
-        (scene_of S.Source K.Sink source.old outside.old.sink.now outside.old.disk.now
-        (around (C.choices outside.old.chooser.now) answers.old outside.old.steps.now))
-        (scene_of S.Source K.Sink source.new outside.new.sink.now outside.new.disk.now
-        (around (C.choices outside.new.chooser.now) answers.new outside.new.steps.now)) }
-    ensures same { IsSame outside.old outside.new }
-{
-    let mut all = Outside {
-        chooser: &mut *outside.chooser,
-        answers,
-        disk: &mut *outside.disk,
-        sink: &mut *outside.sink,
-        steps: &mut *outside.steps,
-        text: &mut *outside.text,
-    };
-    session(alloc, store, questions, source, &mut all)
-}
-
-// The same with devices in slots, which it keeps.
-fn answer_in_slots<
-    Q: Questions + Drop,
-    C: Chooser,
-    V: Device,
-    S: Source,
-    K: Sink,
-    D: Disk,
-    L: Ledger,
->(
-    alloc: Global,
-    store: Store,
-    questions: Q,
-    source: &mut S,
-    slots: &mut Slots<'_, V>,
-    outside: &mut Outside<C, (), D, K, L>,
-) -> Result<(), Halt>
-    requires open { IsOpen D.Disk store outside.old.disk.now }
-    requires known { Q.knows questions store.entries }
-    ensures leaves { Leaves D.Disk (slots_answer V.Device)
-        (given Q.told (is_filled slots.old.devices.now.items)) store.entries result
-        (scene_of S.Source K.Sink source.old outside.old.sink.now outside.old.disk.now
-        (around (C.choices outside.old.chooser.now) slots.old.devices.now.items outside.old.steps.now))
-        (scene_of S.Source K.Sink source.new outside.new.sink.now outside.new.disk.now
-        (around (C.choices outside.new.chooser.now) slots.new.devices.now.items outside.new.steps.now)) }
-    ensures slots { slots.new.devices.ghost_name ≡ slots.old.devices.ghost_name }
-    ensures same { IsSame outside.old outside.new }
-{
-    answer_lent(alloc, store, questions, source, slots, outside)
 }
 
 /// Does all that the program does: opens the log, reads the source command by command, commits what

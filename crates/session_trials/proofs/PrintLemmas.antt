@@ -10,8 +10,8 @@ use Rattle.session_runs.specs.Points.{Surroundings}
 use Rattle.session_runs.specs.Touches.{Answering, named_at}
 use Rattle.session_runs.specs.Turns.{Turn}
 use Rattle.session_commands.specs.Given.{Given}
-use Rattle.arn_session.specs.Answered.{AnswersParts}
-use Rattle.arn_session.specs.Transcript.{text_of}
+use Rattle.session_text.specs.Answered.{AnswersParts}
+use Rattle.session_text.specs.Transcript.{text_of}
 use Rattle.session_trials.specs.Sessions.{Prints}
 
 -- the bytes that are told, or else none

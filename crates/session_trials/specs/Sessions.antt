@@ -7,7 +7,7 @@ use Rattle.arn_commands.specs.Commands.{EachAsks}
 use Rattle.guest_legs.specs.Legs.{Picked}
 use Rattle.session_questions.specs.Texts.{told}
 use Rattle.session_commands.specs.Given.{Given, given}
-use Rattle.arn_session.specs.Transcript.{text_of}
+use Rattle.session_text.specs.Transcript.{text_of}
 
 -- a session that is handed no devices
 abbrev pub no_devices : Given

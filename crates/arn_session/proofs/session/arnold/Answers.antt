@@ -22,7 +22,7 @@ use Rattle.arn_session.specs.declared.status.Damage.TheVariants as damage
 use Rattle.arn_session.proofs.FaultLemmas.{Rose-after}
 use Rattle.arn_session.specs.Opening.{HasOpened}
 use Rattle.arn_session.proofs.OpenLemmas.{left-shut, never-opened, rest-log, rests-opened, Begins-opened, Answers-opened, Taken-opened, Finds-opened, log-is-none, not-opened, for-any, with-never, told-both}
-use Rattle.arn_session.proofs.LeavesLemmas.{spared-same, touched-none, untouched}
+use Rattle.arn_session.proofs.SparedLemmas.{spared-same, touched-none, untouched}
 use Rattle.arn_session.proofs.ResultLemmas.{err-at, ok-at}
 use Rattle.arn_session.proofs.StatusLemmas.{broken-is, halt_for, halt-is, numbers-of, same-error}
 use Rattle.arn_session.proofs.session.arnold.Goals as goal

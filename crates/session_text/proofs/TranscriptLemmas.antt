@@ -19,8 +19,8 @@ use Rattle.session_commands.specs.Given.{Given}
 use Rattle.session_commands.specs.Lines.{needs_machine, turn, turn_unless}
 use Rattle.session_commands.specs.Refusals.{generator_refusal}
 use Rattle.session_commands.specs.Rows.{row_of}
-use Rattle.arn_session.specs.Transcript.{asked_costs, history_behind, needs_any, total_cost, transcript, unless_cut_off}
-use Rattle.arn_session.proofs.PointLemmas.{behind-behind, behind-finished, committed-append}
+use Rattle.session_text.specs.Transcript.{asked_costs, history_behind, needs_any, total_cost, transcript, unless_cut_off}
+use Rattle.session_text.proofs.PointLemmas.{behind-behind, behind-finished, committed-append}
 
 -- the history behind effects and a turn
 history-behind : (history : List Record) (effects : List Effect) (touches : List Touch) (t : Turn) → history_behind (history ++ committed effects) t ≡ history_behind history (behind effects touches t)

@@ -7,11 +7,11 @@ use Rattle.session_runs.specs.Points.{around}
 use Rattle.session_runs.specs.Standing.{standpoint}
 use Rattle.session_runs.specs.Touches.{answering}
 use Rattle.session_commands.specs.Given.{given}
-use Rattle.arn_session.specs.Begun.{standing}
-use Rattle.arn_session.proofs.CutLemmas.{BeginsText-none}
-use Rattle.arn_session.proofs.LeavesLemmas.{touched-none, begins-on, leaves-halted, untaken}
-use Rattle.arn_session.proofs.PointLemmas.{laws-of}
-use Rattle.arn_session.proofs.text.session.Goals as goal
+use Rattle.session_text.specs.Begun.{standing}
+use Rattle.session_text.proofs.CutLemmas.{BeginsText-none}
+use Rattle.session_text.proofs.LeavesLemmas.{touched-none, begins-on, leaves-halted, untaken}
+use Rattle.session_text.proofs.PointLemmas.{laws-of}
+use Rattle.session_text.proofs.text.session.Goals as goal
 
 pub returns-in_err-commands-clause-leaves : goal.returns-in_err-commands-clause-leaves
 returns-in_err-commands-clause-leaves g c =

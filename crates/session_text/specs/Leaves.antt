@@ -20,9 +20,9 @@ use Rattle.session_commands.specs.Answering.{IsNoRun}
 use Rattle.session_runs.specs.Points.{Surroundings, around}
 use Rattle.session_runs.specs.Touches.{Answering}
 use Rattle.session_commands.specs.Given.{Given}
-use Rattle.arn_session.specs.Answered.{AnswersParts, AnswersTaken, TookAtMost, TookFewer}
-use Rattle.arn_session.specs.Begun.{BeginsOn, FindsOn, Standing, standing}
-use Rattle.arn_session.specs.Gone.{WereSpared}
+use Rattle.session_text.specs.Answered.{AnswersParts, AnswersTaken, TookAtMost, TookFewer}
+use Rattle.session_text.specs.Begun.{BeginsOn, FindsOn, Standing, standing}
+use Rattle.session_text.specs.Gone.{WereSpared}
 
 -- how it stands around a session, what is left of its source if that tells, and how often source and sink have failed
 pub record Scene (D A : Type 0) : Type 0 where

@@ -23,17 +23,17 @@ use Rattle.session_runs.specs.Touches.{Answering, AtSlice, AtUnplug, Touch, asks
 use Rattle.session_runs.specs.Standing.{Standpoint, standpoint}
 use Rattle.session_commands.specs.Given.{Given}
 use Rattle.session_commands.specs.Lines.{needs_machine, turn}
-use Rattle.arn_session.specs.Answered.{AnswersParts, AnswersTaken, TookAtMost, TookFewer}
-use Rattle.arn_session.specs.Begun.{BeginsOn, FindsOn, Standing, store_of}
-use Rattle.arn_session.specs.CutOff.{BeginsText, FindsOut}
-use Rattle.arn_session.specs.Gone.{GoneBefore, WereSpared, WereTouched}
-use Rattle.arn_session.specs.Leaves.{Leaves, Scene}
-use Rattle.arn_session.proofs.CutLemmas.{stops-more}
-use Rattle.arn_session.proofs.GoneLemmas.{GoneBefore-append, turn-gone}
-use Rattle.arn_session.proofs.PointLemmas.{Laws}
-use Rattle.arn_session.proofs.Progress.{HaveAnswers, gone-behind, were-touched}
-use Rattle.arn_session.proofs.SlotLemmas.{Begins-seen, Finds-seen}
-use Rattle.arn_session.proofs.TouchLemmas.{and-true, spared-so, touched-many}
+use Rattle.session_text.specs.Answered.{AnswersParts, AnswersTaken, TookAtMost, TookFewer}
+use Rattle.session_text.specs.Begun.{BeginsOn, FindsOn, Standing, store_of}
+use Rattle.session_text.specs.CutOff.{BeginsText, FindsOut}
+use Rattle.session_text.specs.Gone.{GoneBefore, WereSpared, WereTouched}
+use Rattle.session_text.specs.Leaves.{Leaves, Scene}
+use Rattle.session_text.proofs.CutLemmas.{stops-more}
+use Rattle.session_text.proofs.GoneLemmas.{GoneBefore-append, turn-gone}
+use Rattle.session_text.proofs.PointLemmas.{Laws}
+use Rattle.session_text.proofs.Progress.{HaveAnswers, gone-behind, were-touched}
+use Rattle.session_text.proofs.SlotLemmas.{Begins-seen, Finds-seen}
+use Rattle.session_text.proofs.TouchLemmas.{and-true, spared-so, touched-many}
 
 module _ {D A : Type 0} (d : Ghosts D) (who : Answering A) (g : Given) where
   -- the store over the disk doesn't matter where a session begins
@@ -52,10 +52,6 @@ untouched who now = record { touches = []; slices = []; touched = (refl, refl); 
 pub touched-none : {A : Type 0} (who : Answering A) (gone : List ℕ) (now : A) → WereSpared who gone now now
 unfolding untouched
 touched-none who gone now = record { were = untouched who now; spared = tt }
-
--- a history may be told in another way
-pub spared-same : {A : Type 0} {who : Answering A} {old new : A} (h history : List Record) → h ≡ history → WereSpared who (unplugged_in h) old new → WereSpared who (unplugged_in history) old new
-spared-same {A} {who} {old} {new} h history same w = subst (λ (x : List Record). WereSpared who (unplugged_in x) old new) same w
 
 -- asks in range are so without others behind them
 in-range-first : (asks more : List Ask) (slices others : List Picked) → length asks ≡ length slices → AreInRange (asks ++ more) (slices ++ others) → AreInRange asks slices

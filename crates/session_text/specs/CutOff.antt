@@ -14,7 +14,7 @@ use Rattle.session_runs.specs.Turns.{finished}
 use Rattle.session_runs.specs.Standing.{Standpoint}
 use Rattle.session_commands.specs.Given.{Given}
 use Rattle.session_commands.specs.Lines.{needs_machine}
-use Rattle.arn_session.specs.Transcript.{needs_any, total_cost, transcript}
+use Rattle.session_text.specs.Transcript.{needs_any, total_cost, transcript}
 
 -- The first parts of a text, which a session took. Each of them is whole, or the text was taken to its end and has fewer than 2^40 bytes.
 pub record IsBegun (text : List ℕ) (left : Option (List ℕ)) : Type 0 where

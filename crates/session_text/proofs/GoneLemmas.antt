@@ -30,8 +30,8 @@ use Rattle.session_commands.specs.Given.{Given}
 use Rattle.session_commands.specs.Lines.{needs_machine, turn, turn_unless}
 use Rattle.session_commands.specs.Refusals.{generator_refusal}
 use Rattle.session_commands.specs.Rows.{row_of}
-use Rattle.arn_session.specs.Gone.{GoneBefore, GoneLaws}
-use Rattle.arn_session.proofs.TouchLemmas.{unplugged-append}
+use Rattle.session_text.specs.Gone.{GoneBefore, GoneLaws}
+use Rattle.session_text.proofs.TouchLemmas.{unplugged-append}
 
 pub GoneBefore-append : (gone : List ℕ) (touches more : List Touch) → GoneBefore gone touches → GoneBefore (gone ++ unplugs_in touches) more → GoneBefore gone (touches ++ more)
 GoneBefore-append gone [] more p q = subst (λ (l : List ℕ). GoneBefore l more) (append-nil gone) q

@@ -2,10 +2,10 @@ use Rattle.std.proofs.Common.{refl}
 use Rattle.guest_devices.specs.Slots.{is_filled}
 use Rattle.session_runs.specs.Points.{around}
 use Rattle.session_commands.specs.Given.{given}
-use Rattle.arn_session.specs.Begun.{slots_answer}
-use Rattle.arn_session.specs.Leaves.{scene_of}
-use Rattle.arn_session.proofs.SlotLemmas.{Leaves-seen, Touched-stays}
-use Rattle.arn_session.proofs.session.answer_in_slots.Goals as goal
+use Rattle.session_text.specs.Begun.{slots_answer}
+use Rattle.session_text.specs.Leaves.{scene_of}
+use Rattle.session_text.proofs.SlotLemmas.{Leaves-seen, Touched-stays}
+use Rattle.session_text.proofs.slots.answer_in_slots.Goals as goal
 
 pub returns-clause-leaves : goal.returns-clause-leaves
 returns-clause-leaves g c =

@@ -6,7 +6,7 @@ use Rattle.arn_commands.specs.declared.error.ReadError.TheVariants as read
 use Rattle.session_effects.specs.declared.halt.Halt.{Halt}
 use Rattle.session_effects.specs.declared.halt.Halt.TheVariants as halt
 use Rattle.session_commands.specs.Answering.{IsLineCause}
-use Rattle.arn_session.specs.Halts.{read_halt_of}
+use Rattle.session_text.specs.Halts.{read_halt_of}
 
 pub source-was : (error : ReadError) → read_halt_of error ≡ halt.Source → error ≡ read.Source
 source-was read.Source is = refl

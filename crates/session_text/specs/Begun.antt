@@ -10,7 +10,7 @@ use Rattle.session_runs.specs.Points.{Surroundings}
 use Rattle.session_runs.specs.Touches.{Answering}
 use Rattle.session_runs.specs.Standing.{Standpoint, standpoint}
 use Rattle.session_commands.specs.Given.{Given}
-use Rattle.arn_session.specs.CutOff.{BeginsText, FindsOut}
+use Rattle.session_text.specs.CutOff.{BeginsText, FindsOut}
 
 -- devices in slots as those who answer
 abbrev pub slots_answer : {V : Type 0} → device.Ghosts V → Answering (List (Option V))

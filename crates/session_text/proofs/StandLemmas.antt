@@ -23,8 +23,8 @@ use Rattle.session_commands.specs.Given.{Given, given}
 use Rattle.session_commands.specs.Lines.{needs_machine, turn, turn_unless}
 use Rattle.session_commands.specs.Refusals.{can_unplug, is_there, refused_if}
 use Rattle.session_commands.specs.Rows.{LineRow, row_of, unplugs}
-use Rattle.arn_session.proofs.PointLemmas.{Stops-along}
-use Rattle.arn_session.proofs.TouchLemmas.{StandAs}
+use Rattle.session_text.proofs.PointLemmas.{Stops-along}
+use Rattle.session_text.proofs.TouchLemmas.{StandAs}
 
 module _ {A : Type 0} (who : Answering A) (g : Given) (history : List Record) (now : A) (stand : StandAs who g.filled history now) where
   none-both : (a b c : Bool) → c ≡ true → (a && not c) ≡ (b && not c)

@@ -11,8 +11,8 @@ use Rattle.session_runs.specs.Points.{Advances, Surroundings}
 use Rattle.session_runs.specs.Touches.{Answering, named_at}
 use Rattle.session_runs.specs.Turns.{finished}
 use Rattle.session_commands.specs.Given.{Given}
-use Rattle.arn_session.specs.Gone.{GoneBefore}
-use Rattle.arn_session.specs.Transcript.{needs_any, total_cost, transcript}
+use Rattle.session_text.specs.Gone.{GoneBefore}
+use Rattle.session_text.specs.Transcript.{needs_any, total_cost, transcript}
 
 module _ {A : Type 0} (who : Answering A) (g : Given) (history : List Record) where
   -- These parts and no others were answered by a session that began on a history: all that they ask for was carried out, with slices that

@@ -11,8 +11,8 @@ use Rattle.guest_legs.specs.Legs.{Picked}
 use Rattle.session_effects.specs.Effects.{Effect, committed}
 use Rattle.session_runs.specs.Touches.{Answering, Touch, AtSlice, AtUnplug, TouchedBy, asks_in, unplugs_in}
 use Rattle.history_model.specs.Unplugged.{is_gone, unplugged_by, unplugged_in}
-use Rattle.arn_session.specs.Gone.{GoneBefore, WereSpared}
-use Rattle.arn_session.proofs.ReplyLemmas.{RepliesIn-stays}
+use Rattle.session_text.specs.Gone.{GoneBefore, WereSpared}
+use Rattle.session_text.proofs.ReplyLemmas.{RepliesIn-stays}
 
 -- a device is one of these
 abbrev is_one : List ℕ → ℕ → Bool

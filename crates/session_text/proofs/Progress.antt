@@ -26,15 +26,15 @@ use Rattle.session_runs.specs.Standing.{Standpoint}
 use Rattle.session_commands.specs.Cost.{cost, cost_of_turn}
 use Rattle.session_commands.specs.Given.{Given, given}
 use Rattle.session_commands.specs.Lines.{needs_machine, turn}
-use Rattle.arn_session.specs.Answered.{AnswersParts, AnswersTaken, TookAtMost, TookFewer}
-use Rattle.arn_session.specs.Gone.{GoneBefore, WereSpared}
-use Rattle.arn_session.specs.Transcript.{needs_any, total_cost, transcript}
-use Rattle.arn_session.proofs.PointLemmas.{Advances-as, Laws}
-use Rattle.arn_session.proofs.GoneLemmas.{GoneBefore-append, none-gone, turn-gone}
-use Rattle.arn_session.proofs.StandLemmas.{answered-as, found-as, halted-as, needs-stands}
-use Rattle.arn_session.proofs.TouchLemmas.{StandAs, spared-so, stand-after, unplugged-append}
-use Rattle.arn_session.proofs.TranscriptLemmas.{commits-none, cost-push, leads-more, needs-push, transcript-one}
-use Rattle.arn_session.proofs.UseLemmas.{Uses-append, Uses-none}
+use Rattle.session_text.specs.Answered.{AnswersParts, AnswersTaken, TookAtMost, TookFewer}
+use Rattle.session_text.specs.Gone.{GoneBefore, WereSpared}
+use Rattle.session_text.specs.Transcript.{needs_any, total_cost, transcript}
+use Rattle.session_text.proofs.PointLemmas.{Advances-as, Laws}
+use Rattle.session_text.proofs.GoneLemmas.{GoneBefore-append, none-gone, turn-gone}
+use Rattle.session_text.proofs.StandLemmas.{answered-as, found-as, halted-as, needs-stands}
+use Rattle.session_text.proofs.TouchLemmas.{StandAs, spared-so, stand-after, unplugged-append}
+use Rattle.session_text.proofs.TranscriptLemmas.{commits-none, cost-push, leads-more, needs-push, transcript-one}
+use Rattle.session_text.proofs.UseLemmas.{Uses-append, Uses-none}
 
 -- one more part asks for this
 pub EachAsks-push : (parts : List Part) (commands : List Command) (part : Part) (command : Command) → EachAsks parts commands → Asks part command → EachAsks (parts ++ part ∷ []) (commands ++ command ∷ [])

@@ -10,15 +10,15 @@ use Rattle.session_effects.specs.declared.halt.Halt.TheVariants as halt
 use Rattle.session_runs.specs.Points.{around}
 use Rattle.session_runs.specs.Touches.{answering}
 use Rattle.session_commands.specs.Given.{given}
-use Rattle.arn_session.specs.Begun.{BeginsOn, standing}
-use Rattle.arn_session.proofs.CutLemmas.{BeginsText-before, BeginsText-last, BeginsText-whole, FindsOut-last, FindsOut-whole, blames-first, stops-all}
-use Rattle.arn_session.proofs.FaultLemmas.{Rose-after}
-use Rattle.arn_session.proofs.HaltLemmas.{long-was, memory-was, never-long, never-source, read-finds-none, read-never-disk, read-never-full, read-never-sink, source-was}
-use Rattle.arn_session.proofs.LeavesLemmas.{touched-before, touched-halted, begins-on, finds-on, leaves-by, leaves-done, leaves-halted}
-use Rattle.arn_session.proofs.PointLemmas.{laws-of}
-use Rattle.arn_session.proofs.Progress.{AnswersTaken-part, answered-stands, found-stands, halted-stands, there-stands, IsDone-end, IsDone-last, Progress-part, Progress-start, TookAtMost-part, TookFewer-part, TookMost-part, reads-less}
-use Rattle.arn_session.proofs.ResultLemmas.{err-at, ok-at}
-use Rattle.arn_session.proofs.text.answer_all.Goals as goal
+use Rattle.session_text.specs.Begun.{BeginsOn, standing}
+use Rattle.session_text.proofs.CutLemmas.{BeginsText-before, BeginsText-last, BeginsText-whole, FindsOut-last, FindsOut-whole, blames-first, stops-all}
+use Rattle.session_text.proofs.FaultLemmas.{Rose-after}
+use Rattle.session_text.proofs.HaltLemmas.{long-was, memory-was, never-long, never-source, read-finds-none, read-never-disk, read-never-full, read-never-sink, source-was}
+use Rattle.session_text.proofs.LeavesLemmas.{touched-before, touched-halted, begins-on, finds-on, leaves-by, leaves-done, leaves-halted}
+use Rattle.session_text.proofs.PointLemmas.{laws-of}
+use Rattle.session_text.proofs.Progress.{AnswersTaken-part, answered-stands, found-stands, halted-stands, there-stands, IsDone-end, IsDone-last, Progress-part, Progress-start, TookAtMost-part, TookFewer-part, TookMost-part, reads-less}
+use Rattle.session_text.proofs.ResultLemmas.{err-at, ok-at}
+use Rattle.session_text.proofs.text.answer_all.Goals as goal
 
 pub loop-next-init : goal.loop-next-init
 loop-next-init g c =

@@ -28,13 +28,13 @@ use Rattle.session_runs.specs.Standing.{Standpoint, standpoint}
 use Rattle.session_commands.specs.Cost.{cost_of_turn, machine_cost}
 use Rattle.session_commands.specs.Given.{Given}
 use Rattle.session_commands.specs.Lines.{needs_machine, turn}
-use Rattle.arn_session.specs.CutOff.{BeginsText, FindsOut, IsBegun}
-use Rattle.arn_session.specs.Transcript.{needs_any, total_cost, transcript}
-use Rattle.arn_session.proofs.PointLemmas.{Laws, PickedBy-same, Stops-along, Stops-dearer, Stops-finished}
-use Rattle.arn_session.proofs.Progress.{Advances-more, EachAsks-push, HaveAnswers, Progress, Progress-start, are_taken, costs-more, count_taken, parts-more, text_taken, wholes-more}
-use Rattle.arn_session.proofs.TouchLemmas.{StandAs}
-use Rattle.arn_session.proofs.TranscriptLemmas.{needs-push, transcript-one}
-use Rattle.arn_session.proofs.UseLemmas.{Uses-append, Uses-none}
+use Rattle.session_text.specs.CutOff.{BeginsText, FindsOut, IsBegun}
+use Rattle.session_text.specs.Transcript.{needs_any, total_cost, transcript}
+use Rattle.session_text.proofs.PointLemmas.{Laws, PickedBy-same, Stops-along, Stops-dearer, Stops-finished}
+use Rattle.session_text.proofs.Progress.{Advances-more, EachAsks-push, HaveAnswers, Progress, Progress-start, are_taken, costs-more, count_taken, parts-more, text_taken, wholes-more}
+use Rattle.session_text.proofs.TouchLemmas.{StandAs}
+use Rattle.session_text.proofs.TranscriptLemmas.{needs-push, transcript-one}
+use Rattle.session_text.proofs.UseLemmas.{Uses-append, Uses-none}
 
 -- what was taken of a text begins with the bytes that were used
 text_used : (seen more : List ℕ) (reader : ReaderState) (l0 l : Option (List ℕ)) → Uses (seen ++ more) fresh_reader reader l0 l → IfSome l0 (λ text. (rest : List ℕ) × (text ≡ seen ++ rest) × IfSome l (λ left. (beyond : List ℕ) × (rest ≡ beyond ++ left)))

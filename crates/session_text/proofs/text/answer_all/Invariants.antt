@@ -8,8 +8,8 @@ use Rattle.session_commands.specs.Kept.{IsSound}
 use Rattle.session_runs.specs.Touches.{answering}
 use Rattle.session_commands.specs.Given.{given}
 use Rattle.session_runs.specs.Standing.{standing}
-use Rattle.arn_session.proofs.Progress.{Progress}
-use Rattle.arn_session.proofs.text.answer_all.Given as goal
+use Rattle.session_text.proofs.Progress.{Progress}
+use Rattle.session_text.proofs.text.answer_all.Given as goal
 
 abbrev pub invariant-loop-next : goal.invariant-loop-next
 invariant-loop-next g l =

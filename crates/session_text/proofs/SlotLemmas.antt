@@ -15,13 +15,13 @@ use Rattle.session_runs.specs.Points.{Advances, Stops, Surroundings, around}
 use Rattle.session_runs.specs.Touches.{Answering, Touch, AtSlice, AtUnplug, TouchedBy}
 use Rattle.session_runs.specs.Turns.{Point}
 use Rattle.session_runs.specs.Standing.{standpoint}
-use Rattle.arn_session.specs.Answered.{AnswersParts, AnswersTaken}
-use Rattle.arn_session.specs.CutOff.{BeginsText, FindsOut}
-use Rattle.arn_session.specs.Gone.{WereTouched, unplugs_it}
-use Rattle.arn_session.specs.Leaves.{Leaves, Scene}
+use Rattle.session_text.specs.Answered.{AnswersParts, AnswersTaken}
+use Rattle.session_text.specs.CutOff.{BeginsText, FindsOut}
+use Rattle.session_text.specs.Gone.{WereTouched, unplugs_it}
+use Rattle.session_text.specs.Leaves.{Leaves, Scene}
 use Rattle.session_commands.specs.Given.{Given}
-use Rattle.arn_session.specs.Begun.{BeginsOn, FindsOn, Standing, standing, store_of}
-use Rattle.arn_session.proofs.ReplyLemmas.{RepliesIn-seen, RepliesIn-stays}
+use Rattle.session_text.specs.Begun.{BeginsOn, FindsOn, Standing, standing, store_of}
+use Rattle.session_text.proofs.ReplyLemmas.{RepliesIn-seen, RepliesIn-stays}
 
 -- what follows of a call that succeeded, of one that failed
 pub OnOk-then : {T E P Q : Type 0} (r : Result T E) → OnOk r P → (P → Q) → OnOk r Q

@@ -14,8 +14,8 @@ use Rattle.session_runs.specs.Laws.{PointsFollow, TouchesFollow}
 use Rattle.session_runs.specs.Points.{Advances, EndsWithin, IsSpent, Stops, Surroundings}
 use Rattle.session_runs.specs.Touches.{Answering, Touch, named_at}
 use Rattle.session_runs.specs.Turns.{Point, Turn, behind, finished}
-use Rattle.arn_session.specs.Gone.{GoneLaws}
-use Rattle.arn_session.proofs.TouchLemmas.{Keeps}
+use Rattle.session_text.specs.Gone.{GoneLaws}
+use Rattle.session_text.proofs.TouchLemmas.{Keeps}
 
 -- what holds of touches and of points that follow one another, of halts, and of which devices are there and which are gone
 pub record Laws {D A : Type 0} (d : Ghosts D) (who : Answering A) : Type 0 where

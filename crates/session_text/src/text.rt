@@ -1,9 +1,9 @@
 // Reads a source to its end, and does what each command of its text asks for.
 ghost use Rattle.std.specs.Prelude.{◌≡◌, false, is_some};
 ghost use Rattle.arn_commands.specs.Reader.{fresh_reader};
-ghost use Rattle.arn_session.specs.Gone.{GoneLaws};
-ghost use Rattle.arn_session.specs.Halts.{read_halt_of};
-ghost use Rattle.arn_session.specs.Leaves.{Leaves, scene};
+ghost use Rattle.session_text.specs.Gone.{GoneLaws};
+ghost use Rattle.session_text.specs.Halts.{read_halt_of};
+ghost use Rattle.session_text.specs.Leaves.{Leaves, scene};
 ghost use Rattle.session_effects.specs.Outside.{IsSame};
 ghost use Rattle.session_effects.specs.Standing.{IsOpen};
 ghost use Rattle.session_commands.specs.Given.{given};
@@ -86,7 +86,7 @@ fn answer_all<Q: Questions, S: Source, C: Chooser, A: Plugs, D: Disk, K: Sink, L
 }
 
 /// Reads the source to its end, and does what each command of its text asks for on the history of a
-/// log. It takes at most 2^40 bytes of the source.
+/// log, with whoever answers for devices. It takes at most 2^40 bytes of the source.
 pub fn session<Q: Questions + Drop, S: Source, C: Chooser, A: Plugs, D: Disk, K: Sink, L: Ledger>(
     alloc: Global,
     store: Store,

@@ -1,0 +1,14 @@
+mod UseLemmas
+mod FaultLemmas
+mod ResultLemmas
+mod HaltLemmas
+mod ReplyLemmas
+mod TouchLemmas
+mod GoneLemmas
+mod StandLemmas
+mod PointLemmas
+mod TranscriptLemmas
+mod Progress
+mod CutLemmas
+mod SlotLemmas
+mod LeavesLemmas
