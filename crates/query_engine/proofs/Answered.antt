@@ -15,7 +15,7 @@ use Rattle.query_model.specs.Answers.{event_groups, event_pairs, moment_of}
 use Rattle.query_model.specs.Sources.{reaching}
 use Rattle.window_laws.specs.Blocks.{HasWholeBlocks}
 use Rattle.query_engine.specs.Demands.{byte_demands}
-use Rattle.query_engine.specs.Following.{Following, HasFollowed, IsOf, items_followed}
+use Rattle.followed_groups.specs.Following.{Following, HasFollowed, IsOf, items_followed}
 use Rattle.query_engine.specs.Laws.{Laws}
 use Rattle.query_engine.proofs.Fit.{in-range}
 use Rattle.query_engine.proofs.Pairs.{pairs-are}

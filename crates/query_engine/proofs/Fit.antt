@@ -18,7 +18,7 @@ use Rattle.query_model.specs.Sources.{items_in, tracked_at}
 use Rattle.window_laws.specs.Blocks.{HasWholeBlocks}
 use Rattle.taint_state.specs.Kept.{Kept}
 use Rattle.taint_state.specs.Shown.{IsRegisterByte}
-use Rattle.query_engine.specs.Following.{Following, HasFollowed, IsOf, has_byte, is_register_byte, is_there, items_by, items_followed, items_kept, tracker_of}
+use Rattle.followed_groups.specs.Following.{Following, HasFollowed, IsOf, has_byte, is_register_byte, is_there, items_by, items_followed, items_kept, tracker_of}
 use Rattle.query_laws.specs.Fitting.{AreOfBytes, ItemsFit}
 use Rattle.query_engine.proofs.Locals.{is-register}
 

@@ -27,7 +27,7 @@ use Rattle.query_model.specs.declared.held.Part.{Part}
 use Rattle.query_model.specs.declared.held.Part.TheVariants as part
 use Rattle.window_laws.specs.Blocks.{HasWholeBlocks}
 use Rattle.query_laws.specs.Laws.{GroupsAreConnected, GroupsAreOne}
-use Rattle.query_engine.specs.Following.{Following, HasFollowed, IsFollowing, IsOf, items_followed, tracker_of}
+use Rattle.followed_groups.specs.Following.{Following, HasFollowed, IsFollowing, IsOf, items_followed, tracker_of}
 use Rattle.query_engine.specs.Laws.{Laws, LawsOfStates}
 use Rattle.query_engine.specs.States.{IsPlaced, has_part, held_demands, is_held, told_at}
 use Rattle.query_engine.proofs.Fit.{asked-same}

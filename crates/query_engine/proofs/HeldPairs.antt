@@ -16,7 +16,7 @@ use Rattle.lineage_model.specs.Pairs.{pairs_from}
 use Rattle.lineage_model.specs.Tracking.{EventByte}
 use Rattle.taint_state.specs.Shown.{AreItems, item_of}
 use Rattle.query_model.specs.declared.held.Held.{Held}
-use Rattle.query_engine.specs.Following.{Following}
+use Rattle.followed_groups.specs.Following.{Following}
 use Rattle.query_engine.specs.States.{held_demands, item_demand, told_at}
 use Rattle.query_engine.proofs.Lists.{flat-more, from-flat, in-flat, in-range, mapped, range-below, unmapped}
 

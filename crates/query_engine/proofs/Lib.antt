@@ -1,7 +1,4 @@
-pub mod Follows
 pub mod Locals
-pub mod Added
-pub mod Several
 pub mod Counts
 pub mod Checks
 pub mod Known
@@ -19,5 +16,3 @@ pub mod HeldAnswered
 pub mod Writers
 pub mod Written
 pub mod Named
-pub mod Caches
-pub mod Parts

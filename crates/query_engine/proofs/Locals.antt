@@ -10,9 +10,8 @@ use Rattle.lineage_join.specs.declared.demand.Place.TheVariants as place
 use Rattle.lineage_join.specs.Places.{at_of, start_at}
 use Rattle.lineage_model.specs.Flow.{At, Byte, StartRegister, StartSlot, StartMemory}
 use Rattle.lineage_model.specs.Tracking.{EventByte, Tracked}
-use Rattle.history_index.specs.Tables.{Tables}
 use Rattle.history_model.specs.Alone.{Made}
-use Rattle.history_model.specs.Events.{event_at, len_of}
+use Rattle.history_model.specs.Events.{event_at}
 use Rattle.history_model.specs.Groups.{event_group}
 use Rattle.rv64_model.specs.Carries.{Table, operands}
 use Rattle.lineage_model.specs.Tracking.{alone}
@@ -21,15 +20,14 @@ use Rattle.taint_laws.specs.Follows.{heard_from, none_heard}
 use Rattle.taint_laws.specs.Laws.{HearsEvents, IsHeard, IsHearingOf, ShowsNothing, UnheardHaveNone}
 use Rattle.taint_state.specs.Kept.{Kept, shown}
 use Rattle.taint_state.specs.Asked as asked
-use Rattle.taint_tracker.specs.Items.{listed}
-use Rattle.taint_tracker.specs.declared.items.KeptItems.{KeptItems}
 use Rattle.taint_state.specs.Asked.{answer, event_answer, start_answer, where_true}
 use Rattle.taint_state.specs.Goes.{Hearing, hearing_of, hearings_of}
 use Rattle.taint_state.specs.Shown.{AreItems, Heard, IsRegisterByte, Shows, ShowsHeard, Tracking}
 use Rattle.taint_state.specs.declared.point.Point.{Point}
 use Rattle.taint_state.specs.declared.point.Point.TheVariants as point
-use Rattle.query_engine.specs.Following.{Following, IsIndexed, has_byte, is_register_byte, is_there, items_by, items_followed, items_kept, point_of, tracker_of}
-use Rattle.query_engine.specs.Follows.{Follows}
+use Rattle.followed_groups.specs.Following.{Following, IsFollowing, has_byte, is_register_byte, is_there, items_by, items_followed, items_kept, told_by, told_of, tracker_of}
+use Rattle.followed_groups.specs.Follows.{Follows}
+use Rattle.query_engine.specs.Locals.{point_at, point_of}
 
 some-same : (p q : Point) → Some p ≡ Some q → p ≡ q
 some-same p q e = cc
@@ -41,10 +39,11 @@ no-items item = (λ c. c, λ c. c)
 abbrev Held : Record → At → List EventByte → List EventByte
 Held e at bytes = if has_byte e at then bytes else []
 
-either-none : (e : Record) (at : At) (bytes : List EventByte) → bytes ≡ [] → AreItems [] (Held e at bytes)
-either-none e at bytes h = subst (λ (b : List EventByte). AreItems [] (Held e at b)) (sym h) (by_test (has_byte e at))
+-- nor where there is no byte
+either-none : (b : Bool) (bytes : List EventByte) → bytes ≡ [] → AreItems [] (if b then bytes else [])
+either-none b bytes h = subst (λ (list : List EventByte). AreItems [] (if b then list else [])) (sym h) (by_test b)
   where
-    by_test : (b : Bool) → AreItems [] (if b then [] else [])
+    by_test : (x : Bool) → AreItems [] (if x then [] else [])
     by_test true = no-items
     by_test false = no-items
 
@@ -124,18 +123,18 @@ module _ (e : Record) (event : ℕ) (t : Tracked EventByte) where
   Nothing o = (at : At) → ShowsNothing (option_map hearing_of o) at → t.points event at ≡ []
 
   byte-heard : (o : Option Heard) (k : ℕ) → IfSome o (ShowsHeard event t) → IfSome (option_map hearing_of o) (IsHearingOf e) → Nothing o → nat_lt k (event_len e) ≡ true → Told (option_and_then (event_answer k) o) (Byte k)
-  byte-heard None k shows hearing nothing below = either-none e (Byte k) (t.points event (Byte k)) (nothing (Byte k) tt)
+  byte-heard None k shows hearing nothing below = either-none (has_byte e (Byte k)) (t.points event (Byte k)) (nothing (Byte k) tt)
   byte-heard (Some h) k shows hearing nothing below = byte-told h k hearing.len below shows
 
   start-heard : (o : Option Heard) (n : ℕ) → IfSome o (ShowsHeard event t) → IfSome (option_map hearing_of o) (IsHearingOf e) → Nothing o → Told (option_and_then (start_answer n) o) (start_at n)
-  start-heard None n shows hearing nothing = either-none e (start_at n) (t.points event (start_at n)) (nothing (start_at n) tt)
+  start-heard None n shows hearing nothing = either-none (has_byte e (start_at n)) (t.points event (start_at n)) (nothing (start_at n) tt)
   start-heard (Some h) n shows hearing nothing = by_founds h.founds refl
     where
       by_founds : (b : Bool) → h.founds ≡ b → Told (if b then option_map h.points (asked.start_at n) else None) (start_at n)
       by_founds true f = founding-told h n f (hearing.founds f) shows
-      by_founds false f = either-none e (start_at n) (t.points event (start_at n)) (nothing (start_at n) (unfounded h n f))
+      by_founds false f = either-none (has_byte e (start_at n)) (t.points event (start_at n)) (nothing (start_at n) (unfounded h n f))
 
-  pub told-at : (x : Tracking) → Shows x t → IfSome (hearings_of x event) (IsHearingOf e) → Nothing (x.heard event) → (p : Place) (q : Point) → point_of (event_len e) event p ≡ Some q → Told (answer x q) (at_of p)
+  pub told-at : (x : Tracking) → Shows x t → IfSome (hearings_of x event) (IsHearingOf e) → Nothing (x.heard event) → (p : Place) (q : Point) → point_of event p (event_len e) ≡ Some q → Told (answer x q) (at_of p)
   told-at x shows hearing nothing (place.Byte k) q is = by_test (nat_lt k (event_len e)) refl is
     where
       by_test : (b : Bool) → nat_lt k (event_len e) ≡ b → (if b then Some (point.Event event k) else None) ≡ Some q → Told (answer x q) (Byte k)
@@ -144,14 +143,14 @@ module _ (e : Record) (event : ℕ) (t : Tracked EventByte) where
   told-at x shows hearing nothing (place.Start n) q is =
       subst (λ (p : Point). Told (answer x p) (start_at n)) (some-same (point.Start event n) q is) (start-heard (x.heard event) n (shows.heard event) hearing nothing)
 
-  -- a byte that the event doesn't have
-  pub behind : (p : Place) → point_of (event_len e) event p ≡ None → Told None (at_of p)
-  behind (place.Byte k) is = by_test (nat_lt k (event_len e)) refl is
-    where
-      by_test : (b : Bool) → nat_lt k (event_len e) ≡ b → (if b then Some (point.Event event k) else None) ≡ None → Told None (Byte k)
-      by_test true below same = absurd (cc)
-      by_test false below same = not-there (Byte k) below
-  behind (place.Start n) is = absurd (cc)
+-- a byte that the event doesn't have
+behind : (e : Record) (event : ℕ) (p : Place) → point_of event p (event_len e) ≡ None → has_byte e (at_of p) ≡ false
+behind e event (place.Byte k) is = by_test (nat_lt k (event_len e)) refl is
+  where
+    by_test : (b : Bool) → nat_lt k (event_len e) ≡ b → (if b then Some (point.Event event k) else None) ≡ None → nat_lt k (event_len e) ≡ false
+    by_test true below same = absurd (cc)
+    by_test false below same = below
+behind e event (place.Start n) is = absurd (cc)
 
 -- what a group that was followed tells
 module _ (f : Following) (g : ℕ) (kept : Kept) (follows : Follows f.linkage f.entries f.until g kept) (event : ℕ) (e : Record) (is_event : event_at f.entries event ≡ Some e) where
@@ -173,30 +172,41 @@ module _ (f : Following) (g : ℕ) (kept : Kept) (follows : Follows f.linkage f.
       ∙ ap (λ (o : Option Kept). if has_byte e at then items_kept f event at g o else []) is_tracker
       ∙ ap (λ (made : Made). if has_byte e at then (tracked_of table made).points event at else []) follows.makes
 
-  own-told : HearsEvents → UnheardHaveNone → event_group f.entries event ≡ Some g → tracker_of f g ≡ Some kept → (p : Place) (q : Point) → point_of (event_len e) event p ≡ Some q
+  own-told : HearsEvents → UnheardHaveNone → event_group f.entries event ≡ Some g → tracker_of f g ≡ Some kept → (p : Place) (q : Point) → point_of event p (event_len e) ≡ Some q
       → AreItems (unwrap_or (answer (shown kept) q) []) (items_followed f event (at_of p))
   own-told hears unheard is_group is_tracker p q is =
       subst (λ (bytes : List EventByte). AreItems (unwrap_or (answer (shown kept) q) []) bytes) (sym (items-are (at_of p) is_group is_tracker))
       (told-at e event (alone table follows.own.inside) (shown kept) follows.shows (hearing-is hears) (nothing-is unheard) p q is)
 
-record HasLen (o : Option Record) (len : ℕ) : Type 0 where
-  e : Record
-  is : o ≡ Some e
-  long : event_len e ≡ len
+-- What groups that were followed tell of a byte that an event has is what reaches it in the event's own group.
+pub asked-told : (f : Following) → IsFollowing f → HearsEvents → UnheardHaveNone → (event : ℕ) (p : Place) (q : Point) → point_at f event p ≡ Some q
+    → AreItems (told_by f q (event_group f.entries event)) (items_followed f event (at_of p))
+asked-told f following hears unheard event p q is = by_event (event_at f.entries event) refl is
+  where
+    none : items_by f event (at_of p) (event_group f.entries event) ≡ [] → AreItems [] (items_followed f event (at_of p))
+    none h = either-none (is_there (event_at f.entries event) (at_of p)) (items_by f event (at_of p) (event_group f.entries event)) h
 
-has-len : (o : Option Record) (len : ℕ) → option_map event_len o ≡ Some len → HasLen o len
-has-len None len h = absurd (cc)
-has-len (Some e) len h = record { e = e; is = refl; long = cc }
+    by_tracker : (e : Record) (g : ℕ) (o : Option Kept) → event_at f.entries event ≡ Some e → point_of event p (event_len e) ≡ Some q → event_group f.entries event ≡ Some g → tracker_of f g ≡ o
+        → AreItems (told_of q o) (items_followed f event (at_of p))
+    by_tracker e g None is_event at is_group is_tracker = none (ap (items_by f event (at_of p)) is_group ∙ ap (items_kept f event (at_of p) g) is_tracker)
+    by_tracker e g (Some kept) is_event at is_group is_tracker =
+        own-told f g kept (subst (λ (o : Option Kept). IfSome o (Follows f.linkage f.entries f.until g)) is_tracker (following g)) event e is_event hears unheard is_group is_tracker p q at
 
-pub local-told : (index : Tables) (f : Following) → IsIndexed index f → HearsEvents → UnheardHaveNone → (event : ℕ) (p : Place) (g : ℕ) → event_group f.entries event ≡ Some g
-    → (kept : Kept) → tracker_of f g ≡ Some kept → (len : ℕ) → len_of f.entries event ≡ Some len → (q : Point) → point_of len event p ≡ Some q
-    → AreItems (unwrap_or (answer (shown kept) q) []) (items_followed f event (at_of p))
-local-told index f i hears unheard event p g is_group kept is_tracker len is_len q is =
-    let has = has-len (event_at f.entries event) len is_len in
-    let follows : Follows f.linkage f.entries f.until g kept = subst (λ (o : Option Kept). IfSome o (Follows f.linkage f.entries f.until g)) is_tracker (i.following g) in
-    own-told f g kept follows event has.e has.is hears unheard is_group is_tracker p q (subst (λ (n : ℕ). point_of n event p ≡ Some q) (sym has.long) is)
+    by_group : (e : Record) (o : Option ℕ) → event_at f.entries event ≡ Some e → point_of event p (event_len e) ≡ Some q → event_group f.entries event ≡ o → AreItems (told_by f q o) (items_followed f event (at_of p))
+    by_group e None is_event at is_group = none (ap (items_by f event (at_of p)) is_group)
+    by_group e (Some g) is_event at is_group = by_tracker e g (tracker_of f g) is_event at is_group refl
 
--- none where nothing is told
-pub items-or : (r : Option KeptItems) (d x : KeptItems) (bytes : List EventByte) → x ≡ unwrap_or r d → listed d ≡ [] → AreItems (unwrap_or (option_map listed r) []) bytes → AreItems (listed x) bytes
-items-or None d x bytes is none are = subst (λ (items : List Item). AreItems items bytes) (sym (ap listed is ∙ none)) are
-items-or (Some items) d x bytes is none are = subst (λ (y : KeptItems). AreItems (listed y) bytes) (sym is) are
+    by_event : (o : Option Record) → event_at f.entries event ≡ o → option_and_then (point_of event p) (option_map event_len o) ≡ Some q
+        → AreItems (told_by f q (event_group f.entries event)) (items_followed f event (at_of p))
+    by_event None is_event at = absurd (cc)
+    by_event (Some e) is_event at = by_group e (event_group f.entries event) is_event at refl
+
+-- nothing reaches a byte that no event has
+pub none-told : (f : Following) (event : ℕ) (p : Place) → point_at f event p ≡ None → AreItems [] (items_followed f event (at_of p))
+none-told f event p is = by_event (event_at f.entries event) refl is
+  where
+    by_event : (o : Option Record) → event_at f.entries event ≡ o → option_and_then (point_of event p) (option_map event_len o) ≡ None → AreItems [] (items_followed f event (at_of p))
+    by_event None is_event at = subst (λ (o : Option Record). AreItems [] (if is_there o (at_of p) then items_by f event (at_of p) (event_group f.entries event) else [])) (sym is_event) no-items
+    by_event (Some e) is_event at =
+        subst (λ (o : Option Record). AreItems [] (if is_there o (at_of p) then items_by f event (at_of p) (event_group f.entries event) else [])) (sym is_event)
+        (subst (λ (b : Bool). AreItems [] (if b then items_by f event (at_of p) (event_group f.entries event) else [])) (sym (behind e event p at)) no-items)

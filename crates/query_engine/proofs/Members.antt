@@ -17,9 +17,9 @@ use Rattle.query_model.specs.declared.held.Part.TheVariants as part
 use Rattle.taint_state.specs.Asked.{answer, memory_answer, register_answer, register_items, where_true}
 use Rattle.taint_state.specs.Kept.{Kept, shown}
 use Rattle.taint_state.specs.Shown.{AreItems, Member, ShowsMember, Tracking}
-use Rattle.query_engine.specs.Follows.{Follows}
-use Rattle.query_engine.specs.Following.{Following, IsFollowing, tracker_of}
-use Rattle.query_engine.specs.States.{point_in, told_at, told_by, told_of}
+use Rattle.followed_groups.specs.Follows.{Follows}
+use Rattle.followed_groups.specs.Following.{Following, IsFollowing, told_by, told_of, tracker_of}
+use Rattle.query_engine.specs.States.{point_in, told_at}
 use Rattle.query_engine.proofs.Locals.{no-items}
 
 some-holds : (a b : Holds) → Some a ≡ Some b → a ≡ b

@@ -27,7 +27,7 @@ use Rattle.query_model.specs.Sinks.{is_among, is_sink, pairs_among, reaching_amo
 use Rattle.query_model.specs.Sources.{items_in, tracked_at}
 use Rattle.taint_state.specs.Kept.{Kept}
 use Rattle.query_engine.specs.Demands.{byte_demands}
-use Rattle.query_engine.specs.Following.{Following, HasFollowed, HasOnly, IsOf, items_by, items_followed, items_kept, tracker_of}
+use Rattle.followed_groups.specs.Following.{Following, HasFollowed, HasOnly, IsOf, items_by, items_followed, items_kept, tracker_of}
 use Rattle.query_engine.specs.Reached.{IsOutBefore, IsOutPair, IsPairAt, IsPairOf, IsTurned, TurnsOne, goes_out, is_asked}
 use Rattle.query_engine.specs.declared.first.Asked.{Asked}
 use Rattle.query_engine.proofs.Takers.{none-has}

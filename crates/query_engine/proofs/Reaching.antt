@@ -14,7 +14,7 @@ use Rattle.query_model.specs.Answers.{event_groups}
 use Rattle.query_model.specs.Linked.{groups_back}
 use Rattle.query_model.specs.Sources.{reaching}
 use Rattle.window_laws.specs.Blocks.{HasWholeBlocks}
-use Rattle.query_engine.specs.Following.{Following, HasFollowed, IsOf, items_followed}
+use Rattle.followed_groups.specs.Following.{Following, HasFollowed, IsOf, items_followed}
 use Rattle.query_engine.specs.Laws.{Laws}
 use Rattle.query_laws.specs.Laws.{GroupsAreConnected}
 use Rattle.query_engine.proofs.Fit.{asked-same}

@@ -17,7 +17,7 @@ use Rattle.parts_model.specs.declared.tagged.TaggedByte.{TaggedByte}
 use Rattle.query_model.specs.Names.{writer_of, written_groups, written_pairs, written_sources}
 use Rattle.window_laws.specs.Blocks.{HasWholeBlocks}
 use Rattle.query_laws.specs.Names.{AreWritten}
-use Rattle.query_engine.specs.Following.{Following, HasFollowed, IsOf, items_followed}
+use Rattle.followed_groups.specs.Following.{Following, HasFollowed, IsOf, items_followed}
 use Rattle.query_engine.specs.Laws.{LawsOfNames}
 use Rattle.query_engine.specs.Names.{writer_demand, writer_demands}
 use Rattle.query_engine.proofs.Fit.{asked-same}

@@ -13,17 +13,13 @@ use Rattle.query_model.specs.declared.held.Part.TheVariants as part
 use Rattle.replayer.specs.Bounds.{ran_before}
 use Rattle.replay_steps.specs.declared.errors.QueryError.{QueryError}
 use Rattle.replay_steps.specs.declared.errors.QueryError.TheVariants as error
-use Rattle.query_engine.specs.Follows.{Explains}
+use Rattle.followed_groups.specs.Follows.{Explains}
 use Rattle.query_engine.specs.Names.{AnswersNamed, FailsNamed}
-use Rattle.query_engine.specs.Parts.{IsPart}
+use Rattle.followed_groups.specs.Parts.{IsPart, ran_in}
 use Rattle.query_engine.specs.States.{AnswersHeld, FailsHeld}
 use Rattle.query_engine.specs.declared.engine.Answer.{Answer}
 use Rattle.query_engine.specs.declared.engine.Target.{Target}
 use Rattle.query_engine.specs.declared.engine.Target.TheVariants as target
-
--- how many instructions these groups ran before a moment
-abbrev pub ran_in : List Record → ℕ → List ℕ → ℕ
-ran_in entries until groups = sum_by (λ g. ran_before entries g until) groups
 
 -- those that are asked about an event, before it
 abbrev pub ran_for : List Record → ℕ → ℕ

@@ -1,7 +1,7 @@
 -- What an engine keeps between queries.
 use Rattle.std.specs.Prelude.{◌≡◌, ℕ, ◌++◌, List}
 use Rattle.arn_base.specs.declared.records.Record.{Record}
-use Rattle.query_engine.specs.Relations.{AreOf, KeepsNoMore, KeepsNothing, room}
+use Rattle.followed_groups.specs.Relations.{AreOf, KeepsNoMore, KeepsNothing, room}
 use Rattle.query_engine.specs.declared.engine.Answer.{Answer}
 use Rattle.query_engine.specs.declared.engine.Engine.{Engine}
 

@@ -10,9 +10,8 @@ use Rattle.query_model.specs.Forth.{forth_groups}
 use Rattle.query_model.specs.Sinks.{forth_disagreement, forth_pairs}
 use Rattle.replay_steps.specs.declared.errors.QueryError.{QueryError}
 use Rattle.replay_steps.specs.declared.errors.QueryError.TheVariants as error
-use Rattle.query_engine.specs.Asked.{ran_in}
-use Rattle.query_engine.specs.Follows.{Explains}
-use Rattle.query_engine.specs.Parts.{IsPart}
+use Rattle.followed_groups.specs.Follows.{Explains}
+use Rattle.followed_groups.specs.Parts.{IsPart, ran_in}
 use Rattle.query_engine.specs.declared.engine.Answer.{Answer}
 
 -- how many instructions the groups ran to which these bytes can have come

@@ -1,8 +1,5 @@
 pub mod Laws
-pub mod Follows
-pub mod Following
-pub mod Parts
-pub mod Relations
+pub mod Locals
 pub mod Engines
 pub mod Demands
 pub mod States

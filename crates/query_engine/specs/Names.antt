@@ -11,8 +11,8 @@ use Rattle.replay_steps.specs.declared.errors.QueryError.{QueryError}
 use Rattle.replay_steps.specs.declared.errors.QueryError.TheVariants as error
 use Rattle.rv64_model.specs.Carries.{operands}
 use Rattle.rv64_model.specs.declared.linkage.Linkage.{Linkage}
-use Rattle.query_engine.specs.Follows.{Explains}
-use Rattle.query_engine.specs.Parts.{IsPart}
+use Rattle.followed_groups.specs.Follows.{Explains}
+use Rattle.followed_groups.specs.Parts.{IsPart}
 use Rattle.query_engine.specs.declared.engine.Answer.{Answer}
 
 -- byte k takes what the event byte has that last wrote it

@@ -20,9 +20,9 @@ use Rattle.taint_state.specs.Asked.{answer}
 use Rattle.taint_state.specs.Kept.{Kept, shown}
 use Rattle.taint_state.specs.declared.point.Point.{Point}
 use Rattle.taint_state.specs.declared.point.Point.TheVariants as point
-use Rattle.query_engine.specs.Following.{Following, tracker_of}
-use Rattle.query_engine.specs.Follows.{Explains}
-use Rattle.query_engine.specs.Parts.{IsPart}
+use Rattle.followed_groups.specs.Following.{Following, told_by}
+use Rattle.followed_groups.specs.Follows.{Explains}
+use Rattle.followed_groups.specs.Parts.{IsPart}
 use Rattle.query_engine.specs.declared.engine.Answer.{Answer}
 
 -- the process lives at the moment, and has this register, or these bytes, which aren't too many to be asked for
@@ -42,15 +42,6 @@ IsPlaced (part.Memory at len) = at + len < 2 ^ 64
 abbrev pub point_in : ℕ → Part → ℕ → Point
 point_in pid (part.Register r) k = point.Reg pid r k
 point_in pid (part.Memory at len) k = point.Mem pid (at + k)
-
--- what it tells, where the group was followed
-abbrev pub told_of : Point → Option Kept → List Item
-told_of p None = []
-told_of p (Some kept) = unwrap_or (answer (shown kept) p) []
-
-abbrev pub told_by : Following → Point → Option ℕ → List Item
-told_by f p None = []
-told_by f p (Some g) = told_of p (tracker_of f g)
 
 -- the items that the process's group tells of byte k
 abbrev pub told_at : Following → Held → ℕ → List Item

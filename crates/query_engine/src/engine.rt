@@ -5,11 +5,12 @@ ghost use Rattle.rv64_model.specs.Carries.{operands};
 ghost use Rattle.exchange_graph.specs.Reach.{Rises};
 ghost use Rattle.history_index.specs.Indexes.{AreCountable, Indexes};
 ghost use Rattle.history_model.specs.Events.{event_at, is_range};
-ghost use Rattle.query_engine.specs.Asked.{Answers, AnswersEvent, Fails, FailsEvent, RunsNothing, in_file, moment_asked, ran_about, ran_for, ran_for_held, ran_for_named, ran_in};
+ghost use Rattle.query_engine.specs.Asked.{Answers, AnswersEvent, Fails, FailsEvent, RunsNothing, in_file, moment_asked, ran_about, ran_for, ran_for_held, ran_for_named};
 ghost use Rattle.query_engine.specs.Demands.{byte_demands};
 ghost use Rattle.query_engine.specs.Engines.{AddsNone, HasSeen, KeepsNone, ReplaysAll, keep_of};
-ghost use Rattle.query_engine.specs.Following.{HasFollowed, IsOf};
-ghost use Rattle.query_engine.specs.Follows.{Explains};
+ghost use Rattle.followed_groups.specs.Following.{HasFollowed, IsOf};
+ghost use Rattle.followed_groups.specs.Follows.{Explains};
+ghost use Rattle.followed_groups.specs.Parts.{ran_in};
 ghost use Rattle.query_engine.specs.Names.{AnswersNamed, AnswersWritten, FailsNamed};
 ghost use Rattle.query_engine.specs.States.{AnswersHeld, FailsHeld, is_held};
 ghost use Rattle.parts_model.specs.declared.limits.TheConstants.{MOST_ASKED};
@@ -17,12 +18,12 @@ ghost use Rattle.query_laws.specs.Names.{AreWritten};
 ghost use Rattle.query_model.specs.Answers.{count_in, event_groups, event_pairs, moment_of};
 ghost use Rattle.query_model.specs.Names.{written_disagreement, written_groups};
 
-use crate::followed::Followed;
+use crate::told::FollowedLocals;
 use crate::law::{laws, laws_of_names};
-use crate::relations::Relations;
 use crate::{names, states};
 use arn_base::{Bytes, NoMemory, Numbers, Pairs, Record, Steps};
 use exchange_graph::Graph;
+use followed_groups::{Followed, Relations};
 use history_index::Index;
 use lineage_join::{Demand, Place, join, pairs_are_one};
 use parts_model::TaggedByte;
@@ -175,7 +176,8 @@ fn pairs(
     blocks_are_whole(entries);
     pairs_are_one();
     let demands = demands(alloc, event, from, len)?;
-    join(alloc, entries, index, followed, demands.as_slice())
+    let locals = FollowedLocals { followed };
+    join(alloc, entries, index, &locals, demands.as_slice())
 }
 
 /// These pairs, beside the groups that were asked for them and those that were replayed.
@@ -241,7 +243,7 @@ impl Engine {
     {
         let groups = groups_about(self.alloc, entries, index, event)?;
         let until = moment_about(index, event);
-        let (followed, replayed) = self.follow_all(
+        let (followed, replayed) = self.kept.follow_all(
             entries,
             index,
             linkage,
@@ -280,7 +282,7 @@ impl Engine {
         ensures keep { keep_of self.new ≡ keep_of self.old }
     {
         let groups = states::groups_of(self.alloc, entries, index, held.pid)?;
-        let (followed, replayed) = self.follow_all(
+        let (followed, replayed) = self.kept.follow_all(
             entries,
             index,
             linkage,
@@ -349,7 +351,7 @@ impl Engine {
         ensures keep { keep_of self.new ≡ keep_of self.old }
     {
         let groups = names::groups_of(self.alloc, entries, index, bytes)?;
-        let (followed, replayed) = self.follow_all(
+        let (followed, replayed) = self.kept.follow_all(
             entries,
             index,
             linkage,

@@ -1,9 +1,10 @@
 // Queries forward.
 ghost use Rattle.std.specs.Prelude.{◌≡◌, ◌≤◌, ◌+◌, IfErr, IfOk, OnErr, true};
+ghost use Rattle.followed_groups.specs.Parts.{ran_in};
 ghost use Rattle.history_index.specs.Indexes.{AreCountable, Indexes};
 ghost use Rattle.history_model.specs.Events.{event_at, is_range};
 ghost use Rattle.history_model.specs.Moments.{total};
-ghost use Rattle.query_engine.specs.Asked.{RunsNothing, ran_in};
+ghost use Rattle.query_engine.specs.Asked.{RunsNothing};
 ghost use Rattle.query_engine.specs.Engines.{AddsNone, HasSeen, KeepsNone, ReplaysAll, keep_of};
 ghost use Rattle.query_engine.specs.Forth.{AnswersForth, FailsForth, ran_forth};
 
@@ -43,7 +44,7 @@ impl Engine {
         ensures keep { keep_of self.new ≡ keep_of self.old }
     {
         let groups = forth_groups(self.alloc, entries, index, asked)?;
-        let (followed, replayed) = self.follow_all(
+        let (followed, replayed) = self.kept.follow_all(
             entries,
             index,
             linkage,

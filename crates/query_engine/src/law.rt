@@ -2,6 +2,7 @@
 ghost use Rattle.query_engine.specs.Engines.{SeenStays};
 ghost use Rattle.query_engine.specs.Laws.{Laws, LawsOfNames, LawsOfStates};
 
+use followed_groups::kept_stays;
 use query_laws::{
     groups_are_connected, groups_are_one, held_is_of_bytes, held_items_are_there, items_fit,
     named_are_written, reaching_is_of_bytes, written_is_of_bytes,
@@ -38,4 +39,6 @@ pub fn laws_of_names()
 /// An engine whose queries so far were on records has seen those that begin with these.
 pub fn seen_stays()
     ensures { SeenStays }
-{}
+{
+    kept_stays();
+}

@@ -4,16 +4,13 @@
 
 mod engine;
 mod first;
-mod follow;
-mod follow_all;
-mod followed;
 mod forth;
 mod law;
 mod law_forth;
 mod names;
-mod relations;
 mod sinks;
 mod states;
+mod told;
 
 pub use engine::{Answer, Engine, Target};
 pub use law::seen_stays;

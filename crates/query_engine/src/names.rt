@@ -4,16 +4,17 @@ ghost use Rattle.rv64_model.specs.Carries.{operands};
 ghost use Rattle.exchange_graph.specs.Reach.{Rises};
 ghost use Rattle.history_index.specs.Indexes.{AreCountable, Indexes};
 ghost use Rattle.parts_model.specs.declared.limits.TheConstants.{MOST_ASKED};
-ghost use Rattle.query_engine.specs.Following.{HasFollowed, IsOf};
+ghost use Rattle.followed_groups.specs.Following.{HasFollowed, IsOf};
 ghost use Rattle.query_engine.specs.Names.{LacksVersion, writer_demands};
 ghost use Rattle.query_laws.specs.Names.{AreWritten};
 ghost use Rattle.query_model.specs.Names.{part_of, version_of, writers, written_groups, written_pairs};
 
-use crate::followed::Followed;
 use crate::law::{laws, laws_of_names};
+use crate::told::FollowedLocals;
 use arn_base::{NoMemory, Numbers, Pairs, Record};
 use exchange_graph::Graph;
 use file_versions::{VersionError, Versions};
+use followed_groups::Followed;
 use history_index::Index;
 use lineage_join::{Demand, Place, join, pairs_are_one};
 use parts_model::TaggedByte;
@@ -135,5 +136,6 @@ pub fn pairs(
     blocks_are_whole(entries);
     pairs_are_one();
     let demands = demands(alloc, bytes)?;
-    join(alloc, entries, index, followed, demands.as_slice())
+    let locals = FollowedLocals { followed };
+    join(alloc, entries, index, &locals, demands.as_slice())
 }

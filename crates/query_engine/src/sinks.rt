@@ -8,17 +8,18 @@ ghost use Rattle.history_model.specs.Events.{event_at, how_many};
 ghost use Rattle.history_model.specs.Moments.{total};
 ghost use Rattle.lineage_join.specs.Fits.{AllFit};
 ghost use Rattle.lineage_join.specs.Laws.{reaches};
-ghost use Rattle.query_engine.specs.Following.{HasFollowed, HasOnly, IsOf, items_followed};
+ghost use Rattle.followed_groups.specs.Following.{HasFollowed, HasOnly, IsOf, items_followed};
 ghost use Rattle.query_engine.specs.Reached.{IsOutBefore, IsOutPair, IsPairAt, IsTurned, TurnsOne};
 ghost use Rattle.query_engine.specs.Reached as model_reached;
 ghost use Rattle.query_model.specs.Sinks as model;
 
 use crate::engine::demands;
 use crate::first::Asked;
-use crate::followed::Followed;
 use crate::law::laws;
 use crate::law_forth::laws_forth;
+use crate::told::FollowedLocals;
 use arn_base::{Extra, NoMemory, Pair, Pairs, Record};
+use followed_groups::Followed;
 use history_index::Index;
 use lineage_join::{Found, join, pairs_are_one, record_at};
 use parts_model::calls::WRITE;
@@ -112,7 +113,8 @@ fn add_sink(
 {
     let len = index.event_len(sink).unwrap_or(0);
     let demands = demands(alloc, sink, 0, len)?;
-    let reached = join(alloc, entries, index, followed, demands.as_slice())?;
+    let locals = FollowedLocals { followed };
+    let reached = join(alloc, entries, index, &locals, demands.as_slice())?;
     add_all(asked, sink, reached.as_slice(), found)
 }
 

@@ -4,15 +4,16 @@ ghost use Rattle.arn_base.specs.declared.records.Record.{Record};
 ghost use Rattle.rv64_model.specs.Carries.{operands};
 ghost use Rattle.exchange_graph.specs.Reach.{Rises};
 ghost use Rattle.history_index.specs.Indexes.{AreCountable, Indexes};
-ghost use Rattle.query_engine.specs.Following.{HasFollowed, IsOf};
+ghost use Rattle.followed_groups.specs.Following.{HasFollowed, IsOf};
 ghost use Rattle.query_engine.specs.States as told;
 ghost use Rattle.query_engine.specs.States.{IsPlaced, held_demands, item_demand, point_in};
 ghost use Rattle.query_model.specs.States.{HasByte, held_pairs, part_len, process_groups};
 
-use crate::followed::Followed;
 use crate::law::{laws, laws_of_states};
+use crate::told::FollowedLocals;
 use arn_base::{NoMemory, Numbers, Pairs, Record};
 use exchange_graph::Graph;
+use followed_groups::Followed;
 use history_index::Index;
 use lineage_join::{Demand, join, numbers_stand, pairs_are_one};
 use past_lives::{is_member, is_memory_range};
@@ -145,5 +146,6 @@ pub fn pairs(
     numbers_stand();
     followed.are_followed();
     let demands = demands(alloc, entries, followed, held)?;
-    join(alloc, entries, index, followed, demands.as_slice())
+    let locals = FollowedLocals { followed };
+    join(alloc, entries, index, &locals, demands.as_slice())
 }

@@ -1,6 +1,6 @@
 use Rattle.std.proofs.Common.{sym, ◌∙◌}
 use Rattle.lineage_join.specs.Laws.{reaches}
-use Rattle.query_engine.specs.Following.{items_followed}
+use Rattle.followed_groups.specs.Following.{items_followed}
 use Rattle.query_engine.proofs.Outward.{out-more}
 use Rattle.query_engine.proofs.sinks.add_event.Goals as goal
 

@@ -5,7 +5,7 @@ use Rattle.lineage_join.specs.Asked.{AreAsked}
 use Rattle.lineage_join.specs.Laws.{reaches}
 use Rattle.lineage_join.specs.declared.demand.Demand.{Demand}
 use Rattle.query_engine.specs.Demands.{byte_demands}
-use Rattle.query_engine.specs.Following.{items_followed}
+use Rattle.followed_groups.specs.Following.{items_followed}
 use Rattle.query_engine.proofs.Outward.{at-turned, len-in-is}
 use Rattle.query_engine.proofs.Takers.{on-map}
 use Rattle.query_engine.proofs.sinks.add_sink.Goals as goal

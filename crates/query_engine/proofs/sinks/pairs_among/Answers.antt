@@ -1,5 +1,5 @@
 use Rattle.history_model.specs.Moments.{total}
-use Rattle.query_engine.specs.Following.{items_followed}
+use Rattle.followed_groups.specs.Following.{items_followed}
 use Rattle.query_engine.proofs.Fit.{fit}
 use Rattle.query_engine.proofs.Outward.{all-pairs, followed-among}
 use Rattle.query_engine.proofs.Pairs.{ok-both}

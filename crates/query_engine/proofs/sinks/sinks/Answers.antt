@@ -1,7 +1,7 @@
 use Rattle.std.proofs.Common.{ℕ, List, Contains, ◌↔◌}
 use Rattle.arn_base.specs.declared.records.Pair.{Pair}
 use Rattle.lineage_join.specs.Laws.{reaches}
-use Rattle.query_engine.specs.Following.{items_followed}
+use Rattle.followed_groups.specs.Following.{items_followed}
 use Rattle.query_engine.specs.Reached.{IsOutBefore, IsOutPair}
 use Rattle.query_engine.proofs.Takers.{at-end, before-more}
 use Rattle.query_engine.proofs.sinks.sinks.Goals as goal

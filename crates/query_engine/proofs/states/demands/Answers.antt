@@ -1,7 +1,7 @@
 use Rattle.std.proofs.Common.{ap, ◌∙◌}
 use Rattle.history_model.specs.Groups.{group_of}
 use Rattle.taint_state.specs.declared.point.Point.{Point}
-use Rattle.query_engine.specs.States.{told_by}
+use Rattle.followed_groups.specs.Following.{told_by}
 use Rattle.query_engine.proofs.HeldPairs.{demands-more}
 use Rattle.query_engine.proofs.states.demands.Goals as goal
 

@@ -1,4 +1,4 @@
-use Rattle.query_engine.specs.Relations.{number_of}
+use Rattle.followed_groups.specs.Relations.{number_of}
 use Rattle.query_engine.proofs.engine.Engine.new.Goals as goal
 
 pub returns-clause-seen : goal.returns-clause-seen

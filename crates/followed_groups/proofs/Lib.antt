@@ -1,0 +1,5 @@
+pub mod Follows
+pub mod Added
+pub mod Several
+pub mod Caches
+pub mod Parts

@@ -1,0 +1,4 @@
+pub mod Follows
+pub mod Following
+pub mod Parts
+pub mod Relations

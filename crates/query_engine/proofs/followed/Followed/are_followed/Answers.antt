@@ -1,6 +1,0 @@
-use Rattle.std.proofs.Common.{subst}
-use Rattle.query_engine.specs.Following.{Following, IsFollowing}
-use Rattle.query_engine.proofs.followed.Followed.are_followed.Goals as goal
-
-pub returns : goal.returns
-returns c = subst (λ (x : Following). IsFollowing x) c.self.view_is c.self.invariant.following
