@@ -1,7 +1,5 @@
 pub mod Laws
-pub mod Locals
 pub mod Engines
-pub mod Demands
 pub mod States
 pub mod Asked
 pub mod Forth

@@ -1,9 +1,6 @@
--- What is asked of bytes of a file at a moment, and what is answered.
-use Rattle.std.specs.Prelude.{◌≡◌, ℕ, ◌+◌, List, [], ◌∷◌, Option, Some, None}
+-- What is answered of bytes of a file at a moment.
+use Rattle.std.specs.Prelude.{◌≡◌, ℕ, List, Option, Some, None}
 use Rattle.arn_base.specs.declared.records.Record.{Record}
-use Rattle.lineage_join.specs.declared.demand.Demand.{Demand}
-use Rattle.lineage_join.specs.declared.demand.Demand.TheVariants as demand
-use Rattle.lineage_join.specs.declared.demand.Place.TheVariants as place
 use Rattle.parts_model.specs.declared.tagged.TaggedByte.{TaggedByte}
 use Rattle.query_model.specs.Answers.{count_in}
 use Rattle.query_model.specs.Names.{Named, named_bytes, written_disagreement, written_groups, written_pairs}
@@ -14,21 +11,6 @@ use Rattle.rv64_model.specs.declared.linkage.Linkage.{Linkage}
 use Rattle.followed_groups.specs.Follows.{Explains}
 use Rattle.followed_groups.specs.Parts.{IsPart}
 use Rattle.query_engine.specs.declared.engine.Answer.{Answer}
-
--- byte k takes what the event byte has that last wrote it
-abbrev pub writer_demand : ℕ → TaggedByte → Demand
-writer_demand k b = demand.Event b.origin.event (place.Byte b.origin.at) k
-
--- so does each, from byte k on
-abbrev pub writer_demands : ℕ → List TaggedByte → List Demand
-writer_demands k [] = []
-writer_demands k (b ∷ bytes) = writer_demand k b ∷ writer_demands (k + 1) bytes
-
--- a file that can't be told isn't there, or memory ran out
-abbrev pub LacksVersion : Option (List TaggedByte) → QueryError → Type 0
-LacksVersion version error.NoPoint = version ≡ None
-LacksVersion version (error.Disagrees d) = ⊥
-LacksVersion version error.NoMemory = Unit {0}
 
 -- no group that is asked disagrees, these pairs, groups and counts are the answer, and some of the groups were replayed
 pub record AnswersWritten (linkage : Linkage) (entries : List Record) (moment : ℕ) (bytes : List TaggedByte) (answer : Answer) : Type 0 where

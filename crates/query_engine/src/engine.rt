@@ -6,26 +6,28 @@ ghost use Rattle.exchange_graph.specs.Reach.{Rises};
 ghost use Rattle.history_index.specs.Indexes.{AreCountable, Indexes};
 ghost use Rattle.history_model.specs.Events.{event_at, is_range};
 ghost use Rattle.query_engine.specs.Asked.{Answers, AnswersEvent, Fails, FailsEvent, RunsNothing, in_file, moment_asked, ran_about, ran_for, ran_for_held, ran_for_named};
-ghost use Rattle.query_engine.specs.Demands.{byte_demands};
 ghost use Rattle.query_engine.specs.Engines.{AddsNone, HasSeen, KeepsNone, ReplaysAll, keep_of};
 ghost use Rattle.followed_groups.specs.Following.{HasFollowed, IsOf};
 ghost use Rattle.followed_groups.specs.Follows.{Explains};
 ghost use Rattle.followed_groups.specs.Parts.{ran_in};
+ghost use Rattle.followed_pairs.specs.States as told;
 ghost use Rattle.query_engine.specs.Names.{AnswersNamed, AnswersWritten, FailsNamed};
-ghost use Rattle.query_engine.specs.States.{AnswersHeld, FailsHeld, is_held};
+ghost use Rattle.query_engine.specs.States.{AnswersHeld, FailsHeld};
 ghost use Rattle.parts_model.specs.declared.limits.TheConstants.{MOST_ASKED};
 ghost use Rattle.query_laws.specs.Names.{AreWritten};
-ghost use Rattle.query_model.specs.Answers.{count_in, event_groups, event_pairs, moment_of};
+ghost use Rattle.query_model.specs.Answers.{count_in, event_groups, moment_of};
+ghost use Rattle.query_model.specs.Answers as model;
 ghost use Rattle.query_model.specs.Names.{written_disagreement, written_groups};
 
-use crate::told::FollowedLocals;
 use crate::law::{laws, laws_of_names};
 use crate::{names, states};
 use arn_base::{Bytes, NoMemory, Numbers, Pairs, Record, Steps};
 use exchange_graph::Graph;
 use followed_groups::{Followed, Relations};
+use followed_pairs::{
+    Asked, count_all, event_pairs, has_range, is_held, items_are_of_groups, part, version,
+};
 use history_index::Index;
-use lineage_join::{Demand, Place, join, pairs_are_one};
 use parts_model::TaggedByte;
 use parts_model::limits::MOST_ASKED;
 use query_model::{Held, Part};
@@ -84,19 +86,6 @@ pub struct Engine {
     pub(crate) kept: Relations,
 }
 
-/// Whether an event is there and has these bytes, and they aren't too many to be asked for.
-pub fn has_range(index: &Index, event: u64, from: u32, len: u32) -> bool
-    ensures { (entries : List Record) → Indexes index.now entries →
-        result ≡ is_range (event_at entries event) from len }
-{
-    match index.event_len(event) {
-        Some(bytes) => {
-            u64::from(from) + u64::from(len) <= u64::from(bytes) && u64::from(len) <= MOST_ASKED
-        }
-        None => false,
-    }
-}
-
 /// The groups that are asked about an event.
 fn groups_about(
     alloc: Global,
@@ -125,35 +114,6 @@ fn moment_about(index: &Index, event: u64) -> u64
     index.event_moment(event).unwrap_or(0)
 }
 
-/// How many instructions groups counted.
-pub fn count_all(_entries: &[Record], index: &Index, groups: &[u32]) -> u64
-    requires indexed { Indexes index.now _entries.now }
-    requires rises { Rises groups.now }
-    ensures { result ≡ count_in _entries.now groups.now }
-{
-    let _total = index.total();
-    let mut sum = 0;
-    for group in groups {
-        sum += index.count(*group);
-    }
-    sum
-}
-
-/// What is asked of bytes of an event.
-pub fn demands(alloc: Global, event: u64, from: u32, len: u32) -> Result<Vec<Demand>, NoMemory>
-    ensures { IfOk result (λ demands. demands.items ≡ byte_demands event from len) }
-{
-    let mut demands = Vec::new(alloc);
-    for byte in 0..len {
-        demands.push(Demand::Event {
-            event,
-            place: Place::Byte(u64::from(from) + u64::from(byte)),
-            byte,
-        })?;
-    }
-    Ok(demands)
-}
-
 /// The pairs that answer of bytes of an event.
 fn pairs(
     alloc: Global,
@@ -170,14 +130,12 @@ fn pairs(
     requires of { IsOf entries.now linkage (moment_of entries.now event) followed.now }
     requires has { HasFollowed followed.now (event_groups entries.now event) }
     ensures { IfOk result
-        (λ pairs. pairs ≡ event_pairs (operands linkage) entries.now event from len) }
+        (λ pairs. pairs ≡ model.event_pairs (operands linkage) entries.now event from len) }
 {
     laws();
     blocks_are_whole(entries);
-    pairs_are_one();
-    let demands = demands(alloc, event, from, len)?;
-    let locals = FollowedLocals { followed };
-    join(alloc, entries, index, &locals, demands.as_slice())
+    items_are_of_groups();
+    event_pairs(alloc, entries, index, followed, Asked { event, from, len })
 }
 
 /// These pairs, beside the groups that were asked for them and those that were replayed.
@@ -270,7 +228,7 @@ impl Engine {
         requires countable { AreCountable entries.now }
         requires indexed { Indexes index.now entries.now }
         requires seen { HasSeen entries.now self.old }
-        requires there { is_held entries.now held ≡ true }
+        requires there { told.is_held entries.now held ≡ true }
         ensures ok { IfOk result (AnswersHeld linkage entries.now held) }
         ensures err { IfErr result (FailsHeld entries.now held) }
         ensures counted { IfOk result (λ answer. steps.new ≡ steps.old
@@ -318,7 +276,7 @@ impl Engine {
         ensures seen { HasSeen entries.now self.new }
         ensures keep { keep_of self.new ≡ keep_of self.old }
     {
-        if !states::is_held(entries, index, held) {
+        if !is_held(entries, index, held) {
             return Err(QueryError::NoPoint);
         }
         self.held_back(entries, index, linkage, held, steps)
@@ -395,8 +353,8 @@ impl Engine {
         ensures keep { keep_of self.new ≡ keep_of self.old }
     {
         laws_of_names();
-        let held = names::version(self.alloc, entries, index, moment, name)?;
-        let Some(bytes) = names::part(held.as_slice(), from, len) else {
+        let held = version(self.alloc, entries, index, moment, name)?;
+        let Some(bytes) = part(held.as_slice(), from, len) else {
             return Err(QueryError::NoPoint);
         };
         self.written_back(entries, index, linkage, moment, bytes, steps)

@@ -8,10 +8,11 @@ ghost use Rattle.query_engine.specs.Asked.{RunsNothing};
 ghost use Rattle.query_engine.specs.Engines.{AddsNone, HasSeen, KeepsNone, ReplaysAll, keep_of};
 ghost use Rattle.query_engine.specs.Forth.{AnswersForth, FailsForth, ran_forth};
 
-use crate::engine::{Answer, Engine, answer_of, has_range};
-use crate::first::{Asked, forth_groups};
+use crate::engine::{Answer, Engine, answer_of};
+use crate::first::forth_groups;
 use crate::sinks::pairs_among;
 use arn_base::{Record, Steps};
+use followed_pairs::{Asked, has_range};
 use history_index::Index;
 use replayer::QueryError;
 use rv64_model::Linkage;

@@ -10,7 +10,6 @@ mod law_forth;
 mod names;
 mod sinks;
 mod states;
-mod told;
 
 pub use engine::{Answer, Engine, Target};
 pub use law::seen_stays;

@@ -1,7 +1,7 @@
 use Rattle.std.proofs.Common.{ℕ, List, sym, subst}
 use Rattle.query_model.specs.Forth.{first_groups}
 use Rattle.query_engine.specs.Reached.{HaveSame}
-use Rattle.query_engine.proofs.Pairs.{ok-map}
+use Rattle.query_engine.proofs.Same.{ok-map}
 use Rattle.query_engine.proofs.Takers.{groups-are}
 use Rattle.query_engine.proofs.first.forth_groups.Goals as goal
 

@@ -1,5 +1,5 @@
 use Rattle.std.proofs.Common.{◌∙◌}
-use Rattle.query_engine.proofs.Pairs.{ok-map}
+use Rattle.query_engine.proofs.Same.{ok-map}
 use Rattle.query_engine.proofs.Writers.{groups-are}
 use Rattle.query_engine.proofs.names.groups_of.Goals as goal
 

@@ -1,6 +1,6 @@
 use Rattle.std.proofs.Common.{Some, None, sym}
 use Rattle.query_engine.proofs.HeldAnswered.{groups-are}
-use Rattle.query_engine.proofs.Pairs.{ok-map}
+use Rattle.query_engine.proofs.Same.{ok-map}
 use Rattle.query_engine.proofs.states.groups_of.Goals as goal
 
 pub returns-in-Some-clause-ok : goal.returns-in-Some-clause-ok

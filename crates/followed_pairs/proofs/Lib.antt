@@ -1,0 +1,12 @@
+pub mod Locals
+pub mod Lists
+pub mod Pairs
+pub mod Taking
+pub mod Outward
+pub mod Own
+pub mod Counts
+pub mod Members
+pub mod HeldPairs
+pub mod HeldTold
+pub mod Wrote
+pub mod WriterPairs

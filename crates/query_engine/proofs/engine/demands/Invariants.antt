@@ -1,6 +1,0 @@
-use Rattle.std.proofs.Common.{◌≡◌}
-use Rattle.query_engine.specs.Demands.{byte_demands}
-use Rattle.query_engine.proofs.engine.demands.Given as goal
-
-abbrev pub invariant-loop-byte : goal.invariant-loop-byte
-invariant-loop-byte l = l.demands.items ≡ byte_demands l.event l.from l.byte

@@ -1,6 +1,0 @@
-use Rattle.std.proofs.Common.{◌≡◌, take}
-use Rattle.query_engine.specs.Names.{writer_demands}
-use Rattle.query_engine.proofs.names.demands.Given as goal
-
-abbrev pub invariant-loop-place : goal.invariant-loop-place
-invariant-loop-place l = l.demands.items ≡ writer_demands 0 (take l.place l.bytes)

@@ -1,5 +1,0 @@
-use Rattle.query_engine.proofs.Outward.{AddsTurned}
-use Rattle.query_engine.proofs.sinks.add_all.Given as goal
-
-abbrev pub invariant-loop-pair : goal.invariant-loop-pair
-invariant-loop-pair l = AddsTurned l.asked l.sink l.reached l.pair-index l.initial.found l.found

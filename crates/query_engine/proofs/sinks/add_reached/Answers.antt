@@ -1,7 +1,0 @@
-use Rattle.std.proofs.Common.{refl, sym, ◌∙◌}
-use Rattle.query_engine.proofs.Outward.{turned-more}
-use Rattle.query_engine.proofs.sinks.add_reached.Goals as goal
-
-pub returns-in_ok-add : goal.returns-in_ok-add
-returns-in_ok-add c =
-    turned-more c.args.asked c.args.sink c.args.reached _ c.args.found.now c.add.new.self (sym c.is_asked.ensures ∙ c.if-is_asked.true) refl c.in_ok-add.ensures

@@ -1,6 +1,0 @@
-use Rattle.std.proofs.Common.{◌≡◌, ◌++◌, map, take}
-use Rattle.query_engine.specs.States.{item_demand}
-use Rattle.query_engine.proofs.states.add_items.Given as goal
-
-abbrev pub invariant-loop-item : goal.invariant-loop-item
-invariant-loop-item l = l.demands.items ≡ l.initial.demands.items ++ map (item_demand l.byte) (take l.item-index l.items)

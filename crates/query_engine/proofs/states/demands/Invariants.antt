@@ -1,6 +1,0 @@
-use Rattle.std.proofs.Common.{◌≡◌}
-use Rattle.query_engine.specs.States.{held_demands}
-use Rattle.query_engine.proofs.states.demands.Given as goal
-
-abbrev pub invariant-loop-byte : goal.invariant-loop-byte
-invariant-loop-byte l = l.demands.items ≡ held_demands l.followed l.held l.byte
