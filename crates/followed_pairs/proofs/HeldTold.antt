@@ -1,10 +1,9 @@
 -- What groups that were followed tell of bytes that a process holds.
-use Rattle.std.proofs.Common.{◌≡◌, ℕ, ◌+◌, ◌<◌, ◌^◌, ◌&&◌, ◌||◌, nat_le, nat_lt, Bool, true, false, List, is_some, refl, sym, ap, subst, ◌∙◌, arith, ltb-true, leb-true}
+use Rattle.std.proofs.Common.{◌≡◌, ℕ, ◌+◌, ◌<◌, ◌^◌, ◌&&◌, ◌||◌, nat_le, nat_lt, Bool, true, false, List, is_some, refl, sym, subst, arith, ltb-true, leb-true}
 use Rattle.std.proofs.lemmas.Bool.{and_parts}
 use Rattle.arn_base.specs.declared.records.Pair.{Pair}
 use Rattle.arn_base.specs.declared.records.Record.{Record}
 use Rattle.rv64_model.specs.Carries.{operands}
-use Rattle.rv64_model.specs.declared.linkage.Linkage.{Linkage}
 use Rattle.history_model.specs.Events.{event_at}
 use Rattle.history_model.specs.Moments.{segment_at}
 use Rattle.lineage_join.specs.Asked.{AreAsked, NumbersStand}

@@ -1,5 +1,5 @@
 -- The bytes that went out and are reached, as they are found.
-use Rattle.std.proofs.Common.{◌≡◌, ◌⊎◌, ◌↔◌, inl, inr, ℕ, ◌+◌, ◌-◌, ◌<◌, ◌≤◌, ◌==◌, ◌&&◌, ◌||◌, nat_le, nat_lt, Bool, true, false, if◌then◌else◌, List, [], ◌∷◌, length, take, get_or, Contains, Option, Some, None, IsSome, option_map, unwrap_or, refl, ap, sym, subst, ◌∙◌, arith, true≢false, eqb-true, leb-true, ltb-true, le-leb, lt-ltb, zero-add}
+use Rattle.std.proofs.Common.{◌≡◌, ◌⊎◌, ◌↔◌, inl, inr, ℕ, ◌+◌, ◌-◌, ◌<◌, ◌≤◌, ◌==◌, ◌&&◌, ◌||◌, nat_le, nat_lt, Bool, true, false, List, [], ◌∷◌, length, take, get_or, Contains, Option, Some, None, option_map, unwrap_or, refl, ap, sym, subst, ◌∙◌, arith, true≢false, eqb-true, leb-true, ltb-true, le-leb, lt-ltb, zero-add}
 use Rattle.std.specs.List.{list_any}
 use Rattle.std.proofs.lemmas.Bool.{and_from, and_parts}
 use Rattle.std.proofs.lemmas.List.{take_all, take_more}
@@ -14,7 +14,6 @@ use Rattle.lineage_join.specs.Asked.{AreAsked}
 use Rattle.lineage_join.specs.Waits.{HasAlso}
 use Rattle.lineage_model.specs.Flow.{Byte}
 use Rattle.lineage_model.specs.Joined.{Reaching}
-use Rattle.lineage_model.specs.Tracking.{EventByte}
 use Rattle.query_model.specs.Sinks.{is_among}
 use Rattle.followed_pairs.specs.Demands.{byte_demands}
 use Rattle.followed_pairs.specs.Sinks.{IsOutPair, IsPairAt, IsPairOf, IsTurned, TurnsOne, goes_out, is_asked}

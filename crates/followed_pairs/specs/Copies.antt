@@ -19,4 +19,3 @@ TookBefore entries asked n g = (m : ℕ) × (m < n) × Takes entries asked m g
 -- exactly the groups that did
 abbrev pub AreTakers : List Record → Asked → ℕ → List ℕ → Type 0
 AreTakers entries asked n groups = (g : ℕ) → Contains groups g ↔ TookBefore entries asked n g
-

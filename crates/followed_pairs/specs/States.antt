@@ -1,5 +1,5 @@
 -- What is asked of bytes that a process holds at a moment.
-use Rattle.std.specs.Prelude.{◌≡◌, ℕ, ◌+◌, ◌<◌, ◌^◌, nat_lt, ◌&&◌, Bool, List, All, map, flat_map, IfSome, IsSome}
+use Rattle.std.specs.Prelude.{ℕ, ◌+◌, ◌<◌, ◌^◌, nat_lt, ◌&&◌, Bool, List, All, map, flat_map, IfSome, IsSome}
 use Rattle.std.specs.List.{range_with_len}
 use Rattle.arn_base.specs.declared.records.Record.{Record}
 use Rattle.rv64_model.specs.Carries.{operands}

@@ -56,7 +56,8 @@ pub fn event_pairs(
 ) -> Result<Pairs, NoMemory>
     requires indexed { Indexes index.now entries.now }
     requires fit { AllFit entries.now (items_followed followed.now) }
-    ensures { IfOk result (λ pairs. pairs ≡ pairs_from (event_leads entries.now followed.now asked) 0 asked.len) }
+    ensures { IfOk result (λ pairs.
+        pairs ≡ pairs_from (event_leads entries.now followed.now asked) 0 asked.len) }
 {
     pairs_are_one();
     let demands = demands(alloc, asked.event, asked.from, asked.len)?;

@@ -103,7 +103,8 @@ pub fn written_pairs(
     requires indexed { Indexes index.now entries.now }
     requires fit { AllFit entries.now (items_followed followed.now) }
     requires few { length bytes.now ≤ MOST_ASKED }
-    ensures { IfOk result (λ pairs. pairs ≡ pairs_from (written_leads entries.now followed.now bytes.now) 0 (length bytes.now)) }
+    ensures { IfOk result (λ pairs. pairs ≡
+        pairs_from (written_leads entries.now followed.now bytes.now) 0 (length bytes.now)) }
 {
     pairs_are_one();
     let demands = demands(alloc, bytes)?;

@@ -8,6 +8,7 @@ ghost use Rattle.lineage_join.specs.Fits.{AllFit};
 ghost use Rattle.lineage_join.specs.Laws.{reaches};
 ghost use Rattle.lineage_join.specs.Rising.{IsRising};
 ghost use Rattle.followed_groups.specs.Following.{items_followed};
+ghost use Rattle.followed_pairs.specs.Leads.{leads};
 ghost use Rattle.followed_pairs.specs.Sinks.{IsOutBefore, IsOutPair, IsPairAt, IsTurned, TurnsOne};
 ghost use Rattle.followed_pairs.specs.Sinks as model_reached;
 ghost use Rattle.query_model.specs.Sinks as model;
@@ -170,8 +171,8 @@ pub fn sink_pairs(
 ) -> Result<Pairs, NoMemory>
     requires indexed { Indexes index.now entries.now }
     requires fit { AllFit entries.now (items_followed followed.now) }
-    ensures members { IfOk result (λ pairs. (pair : Pair) → Contains pairs pair ↔
-        IsOutBefore (reaches entries.now (items_followed followed.now)) entries.now groups.now asked (how_many entries.now) pair) }
+    ensures members { IfOk result (λ pairs. (pair : Pair) → Contains pairs pair ↔ IsOutBefore
+        (leads entries.now followed.now) entries.now groups.now asked (how_many entries.now) pair) }
     ensures rising { IfOk result IsRising }
 {
     let found = sinks(alloc, entries, index, followed, groups, asked)?;

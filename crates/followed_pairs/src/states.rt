@@ -114,7 +114,8 @@ pub fn held_pairs(
     requires own { IsOwnFollowed followed.now held.pid }
     requires items { AreItemsThere followed.now held }
     requires fit { AllFit entries.now (items_followed followed.now) }
-    ensures { IfOk result (λ pairs. pairs ≡ pairs_from (held_leads entries.now followed.now held) 0 (part_len held.part)) }
+    ensures { IfOk result (λ pairs. pairs ≡
+        pairs_from (held_leads entries.now followed.now held) 0 (part_len held.part)) }
 {
     pairs_are_one();
     numbers_stand();

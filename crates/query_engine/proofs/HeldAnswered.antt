@@ -1,5 +1,5 @@
 -- What answers of bytes that a process holds.
-use Rattle.std.proofs.Common.{◌≡◌, ℕ, ◌<◌, nat_lt, true, List, [], ◌∷◌, flat_map, All, Contains, Option, Some, None, IfSome, IsSome, option_to_list, refl, sym, ap, subst, ◌∙◌, arith, zero, suc, ltb-true}
+use Rattle.std.proofs.Common.{◌≡◌, ℕ, ◌<◌, nat_lt, true, List, [], ◌∷◌, All, Contains, Option, Some, None, IfSome, IsSome, option_to_list, refl, sym, ap, subst, ◌∙◌, arith, zero, suc, ltb-true}
 use Rattle.std.proofs.lemmas.Bool.{and_parts}
 use Rattle.arn_base.specs.declared.records.Pair.{Pair}
 use Rattle.arn_base.specs.declared.records.Record.{Record}
@@ -24,7 +24,7 @@ use Rattle.followed_groups.specs.Following.{Following, HasFollowed, IsOf, tracke
 use Rattle.followed_pairs.specs.Items.{ItemsAreOfGroups}
 use Rattle.followed_pairs.specs.Leads.{held_leads}
 use Rattle.followed_pairs.specs.States.{AreItemsThere, IsOwnFollowed, has_part, is_held}
-use Rattle.query_engine.specs.Laws.{Laws, LawsOfStates}
+use Rattle.query_engine.specs.Laws.{LawsOfStates}
 use Rattle.query_engine.proofs.Known.{group-known}
 use Rattle.query_engine.proofs.Same.{pairs-same}
 

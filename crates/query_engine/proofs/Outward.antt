@@ -1,5 +1,5 @@
 -- The bytes of writes to the outside that are reached are all pairs that answer.
-use Rattle.std.proofs.Common.{◌≡◌, ◌↔◌, ℕ, ◌+◌, ◌<◌, true, List, Contains, Option, Some, None, refl, ap, sym, subst}
+use Rattle.std.proofs.Common.{◌≡◌, ◌↔◌, ℕ, ◌+◌, ◌<◌, true, List, Contains, Option, Some, None, refl, sym, subst}
 use Rattle.std.proofs.lemmas.Bool.{and_from, and_parts}
 use Rattle.std.proofs.lemmas.Option.{slice_get_within}
 use Rattle.arn_base.specs.declared.records.Pair.{Pair}

@@ -1,5 +1,5 @@
 -- What is answered of a target.
-use Rattle.std.specs.Prelude.{◌≡◌, ℕ, true, false, List, sum_by, Option, Some, None}
+use Rattle.std.specs.Prelude.{◌≡◌, ℕ, true, false, List, Option, Some, None}
 use Rattle.arn_base.specs.declared.records.Record.{Record}
 use Rattle.rv64_model.specs.Carries.{operands}
 use Rattle.rv64_model.specs.declared.linkage.Linkage.{Linkage}
@@ -10,7 +10,6 @@ use Rattle.query_model.specs.Names.{Named, named_bytes, written_groups}
 use Rattle.query_model.specs.States.{process_groups}
 use Rattle.query_model.specs.declared.held.Held.{Held}
 use Rattle.query_model.specs.declared.held.Part.TheVariants as part
-use Rattle.replayer.specs.Bounds.{ran_before}
 use Rattle.replay_steps.specs.declared.errors.QueryError.{QueryError}
 use Rattle.replay_steps.specs.declared.errors.QueryError.TheVariants as error
 use Rattle.followed_groups.specs.Follows.{Explains}

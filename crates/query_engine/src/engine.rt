@@ -201,14 +201,9 @@ impl Engine {
     {
         let groups = groups_about(self.alloc, entries, index, event)?;
         let until = moment_about(index, event);
-        let (followed, replayed) = self.kept.follow_all(
-            entries,
-            index,
-            linkage,
-            groups.as_slice(),
-            until,
-            steps,
-        )?;
+        let (followed, replayed) = self
+            .kept
+            .follow_all(entries, index, linkage, groups.as_slice(), until, steps)?;
         let pairs = pairs(
             self.alloc, entries, index, linkage, &followed, event, from, len,
         )?;
@@ -309,14 +304,9 @@ impl Engine {
         ensures keep { keep_of self.new ≡ keep_of self.old }
     {
         let groups = names::groups_of(self.alloc, entries, index, bytes)?;
-        let (followed, replayed) = self.kept.follow_all(
-            entries,
-            index,
-            linkage,
-            groups.as_slice(),
-            moment,
-            steps,
-        )?;
+        let (followed, replayed) = self
+            .kept
+            .follow_all(entries, index, linkage, groups.as_slice(), moment, steps)?;
         let pairs = names::pairs(
             self.alloc, entries, index, linkage, &followed, moment, bytes,
         )?;

@@ -9,7 +9,7 @@ use Rattle.history_model.specs.Events.{lies_in}
 use Rattle.parts_model.specs.declared.tagged.TaggedByte.{TaggedByte}
 use Rattle.query_engine.specs.Asked.{in_file, in_memory, in_register}
 use Rattle.query_model.specs.Names.{named_bytes, part_of, version_of}
-use Rattle.query_engine.specs.States.{is_held}
+use Rattle.followed_pairs.specs.States.{is_held}
 use Rattle.session_reports.specs.Far.{FarIsNowhere}
 
 neither-there : (b : Bool) → (b && false) ≡ false

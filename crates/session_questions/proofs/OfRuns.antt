@@ -31,7 +31,7 @@ use Rattle.past_lives.specs.Members.{is_member, is_memory_range, is_moment, is_p
 use Rattle.parts_model.specs.declared.limits.TheConstants.{MOST_ASKED}
 use Rattle.parts_model.specs.declared.tagged.TaggedByte.{TaggedByte}
 use Rattle.query_engine.specs.Asked.{in_file, in_memory, in_register}
-use Rattle.query_engine.specs.States.{is_held}
+use Rattle.followed_pairs.specs.States.{is_held}
 use Rattle.query_laws.specs.ForthOfRuns.{ForthIsOfRuns, IsSinkPair}
 use Rattle.query_laws.specs.Names.{NamesAreOfRuns}
 use Rattle.query_laws.specs.OfRuns.{AnswersRun, QueriesAreOfRuns, whole_points}

@@ -13,7 +13,8 @@ use Rattle.parts_model.specs.declared.tagged.TaggedByte.{TaggedByte}
 use Rattle.query_engine.specs.Asked.{Answers, Fails, RunsNothing, in_file, in_memory, in_register, ran_about, ran_for, ran_for_bytes, ran_for_held}
 use Rattle.query_engine.specs.Forth.{AnswersForth, ran_forth}
 use Rattle.query_engine.specs.Names.{AnswersBytes}
-use Rattle.query_engine.specs.States.{AnswersHeld, FailsHeld, is_held}
+use Rattle.followed_pairs.specs.States.{is_held}
+use Rattle.query_engine.specs.States.{AnswersHeld, FailsHeld}
 use Rattle.query_engine.specs.declared.engine.Answer.{Answer}
 use Rattle.query_engine.specs.declared.engine.Target.{Target}
 use Rattle.query_engine.specs.declared.engine.Target.TheVariants as target

@@ -28,7 +28,7 @@ use Rattle.log_store.specs.declared.size.TheConstants.{MOST_LOG}
 use Rattle.parts_model.specs.declared.tagged.TaggedByte.{TaggedByte}
 use Rattle.past_lives.specs.Members.{is_member, is_memory_range, is_moment}
 use Rattle.query_engine.specs.Asked.{in_file, in_memory, in_register}
-use Rattle.query_engine.specs.States.{is_held}
+use Rattle.followed_pairs.specs.States.{is_held}
 use Rattle.query_laws.specs.ForthOfRuns.{IsSinkPair}
 use Rattle.query_laws.specs.Names.{run_bytes, whole_file}
 use Rattle.query_laws.specs.OfRuns.{whole_points}

@@ -23,7 +23,7 @@ use Rattle.query_model.specs.States.{held_disagreement, held_pairs, process_grou
 use Rattle.query_model.specs.declared.held.Held.{Held}
 use Rattle.query_engine.specs.Asked.{in_file, in_memory, in_register, ran_for_held, ran_for_named}
 use Rattle.query_engine.specs.Forth.{ran_forth}
-use Rattle.query_engine.specs.States.{is_held}
+use Rattle.followed_pairs.specs.States.{is_held}
 use Rattle.query_engine.specs.declared.engine.Target.{Target}
 use Rattle.query_engine.specs.declared.engine.Target.TheVariants as target
 use Rattle.session_reports.specs.Events.{events_text}
