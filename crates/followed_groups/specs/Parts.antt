@@ -1,4 +1,4 @@
--- Which groups a query replayed.
+-- Which groups were replayed.
 use Rattle.std.specs.Prelude.{◌≡◌, ◌⊎◌, ℕ, ◌+◌, ◌++◌, List, [], ◌∷◌, sum_by}
 use Rattle.arn_base.specs.declared.records.Record.{Record}
 use Rattle.replayer.specs.Bounds.{ran_before}

@@ -44,7 +44,7 @@ abbrev pub room_of : Option (LruCache (ℕ × ℕ) Relation) → ℕ
 room_of None = 0
 room_of (Some cache) = cache.cap
 
--- the same, of what an engine keeps
+-- the same, of relations
 abbrev pub room : Relations → ℕ
 room relations = room_of relations.cache
 

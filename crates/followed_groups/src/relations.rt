@@ -1,4 +1,4 @@
-// What an engine keeps of groups that it followed.
+// What is kept of groups that were followed.
 ghost use Rattle.std.specs.Prelude.{◌≡◌, IfOk, IfSome, IsOk, Some};
 ghost use Rattle.followed_groups.specs.Relations as told;
 ghost use Rattle.followed_groups.specs.Relations.{HasFound, Holds, HoldsNoMore, KeepsAlso, KeepsNoMore, KeepsNothing, room};

@@ -1,4 +1,4 @@
-//! What an engine looks up of a target, and the pairs that groups which were followed tell of it. What
+//! What is looked up of a target, and the pairs that groups which were followed tell of it. What
 //! these pairs are is said by the groups that were followed, whichever these are.
 #![tactic(auto)]
 

@@ -10,7 +10,7 @@ ghost use Rattle.lineage_join.specs.Rising.{IsRising};
 ghost use Rattle.followed_groups.specs.Following.{items_followed};
 ghost use Rattle.followed_pairs.specs.Leads.{leads};
 ghost use Rattle.followed_pairs.specs.Sinks.{IsOutBefore, IsOutPair, IsPairAt, IsTurned, TurnsOne};
-ghost use Rattle.followed_pairs.specs.Sinks as model_reached;
+ghost use Rattle.followed_pairs.specs.Sinks as told;
 ghost use Rattle.query_model.specs.Sinks as model;
 
 use crate::asked::Asked;
@@ -55,7 +55,7 @@ fn is_among(index: &Index, groups: &[u32], event: u64) -> bool
 /// Whether an event is a write of one of these groups to the outside.
 fn goes_out(entries: &[Record], index: &Index, groups: &[u32], event: u64) -> bool
     requires { Indexes index.now entries.now }
-    ensures { result ≡ model_reached.goes_out entries.now groups.now event (event_at entries.now event) }
+    ensures { result ≡ told.goes_out entries.now groups.now event (event_at entries.now event) }
 {
     match record_at(entries, index, event) {
         Some(entry) => is_sink(entry) && is_among(index, groups, event),
@@ -65,7 +65,7 @@ fn goes_out(entries: &[Record], index: &Index, groups: &[u32], event: u64) -> bo
 
 /// Whether a source byte is one that is asked.
 fn is_asked(asked: Asked, reached: Pair) -> bool
-    ensures { result ≡ model_reached.is_asked asked reached }
+    ensures { result ≡ told.is_asked asked reached }
 {
     let end = u64::from(asked.from) + u64::from(asked.len);
     reached.event == asked.event && asked.from <= reached.at && u64::from(reached.at) < end

@@ -11,7 +11,7 @@ pub mod Images
 pub mod InPlace
 pub mod Laid
 pub mod Later
-pub mod Leds
+pub mod Led
 pub mod Lent
 pub mod Lone
 pub mod Many

@@ -20,7 +20,7 @@ use crate::held;
 use crate::running::Stood;
 use crate::starting::First;
 use crate::table::{fork, make_room, release};
-use crate::told::Slice;
+use crate::told::Stretch;
 use crate::windows::window_of;
 use acts_model::Observer;
 use arn_base::{BadAddress, Blocks, Bytes, Cpu, NoMemory, Start, Steps};
@@ -151,9 +151,9 @@ impl Bodies {
     {
         match &mut self.guests[pid as usize] {
             Some(guest) => {
-                let slice = Slice { pid, count };
+                let stretch = Stretch { pid, count };
                 let (segments, decoder) = (&mut self.segments, &mut self.decoder);
-                held::run_told(guest, segments, slice, observer, decoder, steps)
+                held::run_told(guest, segments, stretch, observer, decoder, steps)
             }
             None => unreachable!(),
         }

@@ -12,7 +12,7 @@ ghost use Rattle.rv64_core.specs.Prospect.{Foretells};
 
 use crate::guest::Guest;
 use crate::running::{self, Stood};
-use crate::told::{self, Slice};
+use crate::told::{self, Stretch};
 use acts_model::Observer;
 use arn_base::{BadAddress, Blocks, Bytes, NoMemory, Steps};
 use guest_mem::{Segment, Spare};
@@ -140,28 +140,28 @@ pub fn run<L: Ledger>(
 pub fn run_told<O: Observer, L: Ledger>(
     guest: &mut Guest,
     segments: &mut Vec<Option<Segment>>,
-    slice: Slice,
+    stretch: Stretch,
     observer: &mut O,
     decoder: &mut Decoder,
     steps: &mut Steps<L>,
 ) -> Result<u32, NoMemory>
     requires { IfHeld guest.old.segment segments.old.items }
-    ensures told { IfOk result (λ ran. HeldMany O.runs slice.pid ran guest.old segments.old.items
+    ensures told { IfOk result (λ ran. HeldMany O.runs stretch.pid ran guest.old segments.old.items
         guest.new segments.new.items observer.old observer.new) }
-    ensures within { IfOk result (λ ran. ran ≤ slice.count) }
-    ensures stops { IfOk result (λ ran. ran < slice.count →
+    ensures within { IfOk result (λ ran. ran ≤ stretch.count) }
+    ensures stops { IfOk result (λ ran. ran < stretch.count →
         IsStop (stands_at (view_of segments.new.items guest.new))) }
-    ensures counted { IfOk result (λ ran. ran ≡ slice.count → steps.new ≡ steps.old + ran) }
-    ensures stopped { IfOk result (λ ran. ran < slice.count → steps.new ≡ steps.old + ran + 1) }
-    ensures failed { OnErr result (HeldFails O.runs slice.pid slice.count guest.old segments.old.items
+    ensures counted { IfOk result (λ ran. ran ≡ stretch.count → steps.new ≡ steps.old + ran) }
+    ensures stopped { IfOk result (λ ran. ran < stretch.count → steps.new ≡ steps.old + ran + 1) }
+    ensures failed { OnErr result (HeldFails O.runs stretch.pid stretch.count guest.old segments.old.items
         guest.new segments.new.items observer.old steps.old steps.new) }
-    ensures bounded { steps.new ≤ steps.old + slice.count }
+    ensures bounded { steps.new ≤ steps.old + stretch.count }
 {
     match guest.segment {
         Some(_) => {
             lend(guest, segments);
             let cpu = &mut guest.cpu;
-            let ran = told::run_told(cpu, &mut guest.memory, slice, observer, decoder, steps);
+            let ran = told::run_told(cpu, &mut guest.memory, stretch, observer, decoder, steps);
             take_back(guest, segments);
             ran
         }
@@ -170,7 +170,7 @@ pub fn run_told<O: Observer, L: Ledger>(
             told::run_told(
                 cpu,
                 &mut guest.memory.space,
-                slice,
+                stretch,
                 observer,
                 decoder,
                 steps,

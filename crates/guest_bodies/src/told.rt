@@ -12,7 +12,7 @@ use std::sync::ledger::Ledger;
 
 /// A process, and for at most how many instructions it goes on.
 #[derive(Clone, Copy, Debug)]
-pub struct Slice {
+pub struct Stretch {
     pub pid: u32,
     pub count: u32,
 }
@@ -25,35 +25,36 @@ pub struct Slice {
 pub fn run_told<M: Memory, O: Observer, L: Ledger>(
     cpu: &mut Cpu,
     memory: &mut M,
-    slice: Slice,
+    stretch: Stretch,
     observer: &mut O,
     decoder: &mut Decoder,
     steps: &mut Steps<L>,
 ) -> Result<u32, NoMemory>
-    ensures told { IfOk result (λ ran. LedMany M.windows O.runs slice.pid ran
+    ensures told { IfOk result (λ ran. LedMany M.windows O.runs stretch.pid ran
         cpu.old memory.old observer.old cpu.new memory.new observer.new) }
-    ensures within { IfOk result (λ ran. ran ≤ slice.count) }
-    ensures stops { IfOk result (λ ran. ran < slice.count →
+    ensures within { IfOk result (λ ran. ran ≤ stretch.count) }
+    ensures stops { IfOk result (λ ran. ran < stretch.count →
         IsStop (instruction cpu.new (M.windows memory.new))) }
-    ensures counted { IfOk result (λ ran. ran ≡ slice.count → steps.new ≡ steps.old + ran) }
-    ensures stopped { IfOk result (λ ran. ran < slice.count → steps.new ≡ steps.old + ran + 1) }
-    ensures failed { OnErr result (LedFails M.windows O.runs slice.pid slice.count
+    ensures counted { IfOk result (λ ran. ran ≡ stretch.count → steps.new ≡ steps.old + ran) }
+    ensures stopped { IfOk result (λ ran. ran < stretch.count → steps.new ≡ steps.old + ran + 1) }
+    ensures failed { OnErr result (LedFails M.windows O.runs stretch.pid stretch.count
         cpu.old memory.old observer.old cpu.new memory.new steps.old steps.new) }
-    ensures bounded { steps.new ≤ steps.old + slice.count }
+    ensures bounded { steps.new ≤ steps.old + stretch.count }
 {
-    for ran in 0..slice.count {
+    for ran in 0..stretch.count {
         let Prospect::Next(planned) = next_instr_with(cpu, memory, decoder, steps) else {
             return Ok(ran);
         };
-        // What the observer does with each kind of instruction is compiled by itself.
+        // All arms are the same: what the observer does with each kind of instruction is compiled by
+        // itself.
         match planned.instr {
-            Instr::Load { .. } => observer.instruction(slice.pid, &planned.instr, cpu)?,
-            Instr::Store { .. } => observer.instruction(slice.pid, &planned.instr, cpu)?,
-            Instr::Imm { .. } => observer.instruction(slice.pid, &planned.instr, cpu)?,
-            Instr::Op { .. } => observer.instruction(slice.pid, &planned.instr, cpu)?,
-            _ => observer.instruction(slice.pid, &planned.instr, cpu)?,
+            Instr::Load { .. } => observer.instruction(stretch.pid, &planned.instr, cpu)?,
+            Instr::Store { .. } => observer.instruction(stretch.pid, &planned.instr, cpu)?,
+            Instr::Imm { .. } => observer.instruction(stretch.pid, &planned.instr, cpu)?,
+            Instr::Op { .. } => observer.instruction(stretch.pid, &planned.instr, cpu)?,
+            _ => observer.instruction(stretch.pid, &planned.instr, cpu)?,
         }
         execute(&planned, cpu, memory)?;
     }
-    Ok(slice.count)
+    Ok(stretch.count)
 }

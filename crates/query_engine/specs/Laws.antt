@@ -3,15 +3,13 @@ use Rattle.query_laws.specs.Fitting.{ItemsFit, ReachingIsOfBytes}
 use Rattle.query_laws.specs.Laws.{GroupsAreConnected, GroupsAreOne}
 use Rattle.query_laws.specs.Names.{NamedAreWritten, WrittenIsOfBytes}
 use Rattle.query_laws.specs.States.{HeldIsOfBytes, HeldItemsAreThere}
-use Rattle.replayer.specs.Bounds.{RunsBefore}
 
--- the groups that are asked are those that are connected, their items can be joined and tell all, and a replay runs what it should
+-- the groups that are asked are those that are connected, and their items can be joined and tell all
 pub record Laws : Type 0 where
   pub connected : GroupsAreConnected
   pub one : GroupsAreOne
   pub fit : ItemsFit
   pub reaching : ReachingIsOfBytes
-  pub runs : RunsBefore
 
 -- the items of bytes that a process holds are bytes that events have, and what they lead to is told by connected groups
 pub record LawsOfStates : Type 0 where

@@ -7,9 +7,8 @@ use query_laws::{
     groups_are_connected, groups_are_one, held_is_of_bytes, held_items_are_there, items_fit,
     named_are_written, reaching_is_of_bytes, written_is_of_bytes,
 };
-use replayer::runs_before;
 
-/// What a query rests on, of groups, of their items and of replays.
+/// What a query rests on, of groups and of their items.
 pub fn laws()
     ensures { Laws }
 {
@@ -17,7 +16,6 @@ pub fn laws()
     groups_are_one();
     items_fit();
     reaching_is_of_bytes();
-    runs_before();
 }
 
 /// What one of bytes that a process holds at a moment rests on besides.

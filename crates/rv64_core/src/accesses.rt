@@ -49,8 +49,8 @@ fn loaded<M: Memory>(op: LoadOp, at: u64, mem: &M) -> Result<u64, BadAddress>
     })
 }
 
-// The same, compiled once for all operations: whoever looks ahead becomes so small that it's compiled
-// into a loop.
+// The same by one load, whatever the operation, so that what looks ahead is small enough to be
+// compiled into a loop.
 #[inline(always)]
 fn loaded_by_len<M: Memory>(op: LoadOp, at: u64, mem: &M) -> Result<u64, BadAddress>
     ensures { result_ok result ≡

@@ -5,4 +5,3 @@ mod slots;
 mod text;
 
 pub use slots::answer_in_slots;
-pub use text::session;

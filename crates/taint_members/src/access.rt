@@ -90,7 +90,8 @@ fn read_segment(segment: Option<Shared>, segments: &[SetNumbers], at: u64, len: 
 
 /// Sets the numbers of a register that isn't x0 to those of so many bytes, at most eight, from an
 /// address on, and zeros behind them. False says that the address lies outside the member's
-/// memories: then nothing changes. It is called with numbers alone, so the loop that calls it stays small.
+/// memories: then nothing changes. It isn't compiled into its
+/// caller, so that the loop there stays small.
 #[inline(never)]
 pub fn load_register(
     member: &mut MemberSets,
@@ -166,7 +167,7 @@ pub fn write(
     write_held(&mut member.window, member.segment, segments, at, numbers)
 }
 
-/// The same by a member's window and the segment that it may hold. It is called as `load_register` is.
+/// The same by a member's window and the segment that it may hold. Nor is this one compiled into its caller.
 #[inline(never)]
 pub fn write_held(
     window: &mut SetNumbers,

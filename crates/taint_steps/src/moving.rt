@@ -116,6 +116,7 @@ pub fn move_register(
     if !moves_register(linkage, instr) {
         return false;
     }
+    // Asked for what is promised of both: nothing is done with them.
     let _ = sets.empty();
     let _ = registers(instr, member);
     let Some(from) = rs1(instr) else {

@@ -123,6 +123,7 @@ fn run_any(
     ensures before { StandAsBefore sets.old sets.new }
     ensures keys { length segments.new ≡ length segments.old }
 {
+    // Asked for what is promised of them: nothing is done with them.
     let _ = registers(&instr, member);
     takes_nothing(sets);
     if reads_nothing(&instr, before, &member.registers) {

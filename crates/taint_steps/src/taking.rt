@@ -30,7 +30,8 @@ pub fn bytes_of(row: &Row, reg: Option<Reg>) -> &[u32]
     }
 }
 
-/// The numbers of the bytes of both registers that an instruction reads. A call whose answer isn't used costs nothing.
+/// The numbers of the bytes of both registers that an instruction reads. It stays a call,
+/// so that its callers are small. Where the answer isn't used, the compiler drops it.
 #[inline(never)]
 pub fn registers<'a>(instr: &Instr, member: &'a MemberSets) -> (&'a [u32], &'a [u32])
     ensures first { IsRegister member.now.registers (operands.rs1_of instr.now) result.0.now }
