@@ -1,5 +1,5 @@
 /// How a run ended.
-#[derive(Clone, Copy, Debug, PartialEq, Eq)]
+#[derive(Clone, Copy)]
 pub enum RunEnd {
     /// No process is live.
     Done,
@@ -10,7 +10,7 @@ pub enum RunEnd {
 }
 
 /// Why a line changes nothing and is told nothing.
-#[derive(Clone, Copy, Debug, PartialEq, Eq)]
+#[derive(Clone, Copy)]
 pub enum Refusal {
     /// The line is too long.
     NoLong,

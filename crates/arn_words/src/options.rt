@@ -12,7 +12,7 @@ use std::alloc::{AllocError, Global};
 use thiserror::Error;
 
 /// What the words say.
-#[derive(Debug, Drop)]
+#[derive(Drop)]
 pub struct Options {
     /// The name of the file of the log.
     pub log: String,

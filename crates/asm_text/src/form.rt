@@ -1,7 +1,7 @@
 use rv64_isa::{BranchOp, ImmOp, LoadOp, RegOp, StoreOp};
 
 /// What a word says, and with it which operands stand behind it.
-#[derive(Clone, Copy, Debug, PartialEq, Eq)]
+#[derive(Clone, Copy)]
 pub enum Form {
     /// `rd, imm`
     Lui,

@@ -13,7 +13,7 @@ use crate::statement::Number;
 use rv64_isa::Reg;
 
 /// A distance from a register.
-#[derive(Clone, Copy, Debug)]
+#[derive(Clone, Copy)]
 pub(crate) struct Offset {
     pub(crate) imm: Number,
     pub(crate) register: Reg,

@@ -2,7 +2,7 @@ use crate::fault::AsmKind;
 use rv64_isa::{BranchOp, ImmOp, Instr, LoadOp, Reg, StoreOp};
 
 /// A number as it is written. Of one that no field can hold only that is kept.
-#[derive(Clone, Copy, Debug, PartialEq, Eq)]
+#[derive(Clone, Copy)]
 pub enum Number {
     /// Its magnitude is below 2^63.
     Small { value: i64 },
@@ -12,7 +12,7 @@ pub enum Number {
 
 /// A statement of a text, with its numbers and labels as they are written. The short forms stand as
 /// what they are short for.
-#[derive(Clone, Copy, Debug)]
+#[derive(Clone, Copy)]
 pub enum Statement<'a> {
     Nothing,
     Label {
@@ -80,7 +80,7 @@ pub enum Statement<'a> {
 }
 
 /// What is read of a statement, or why nothing is.
-#[derive(Clone, Copy, Debug)]
+#[derive(Clone, Copy)]
 pub enum StatementReading<'a> {
     Says(Statement<'a>),
     Wrong(AsmKind),

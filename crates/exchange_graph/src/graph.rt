@@ -15,7 +15,7 @@ use std::alloc::Global;
 use std::marker::Model;
 
 /// Which groups are connected in a history.
-#[derive(Debug, Drop)]
+#[derive(Drop)]
 pub struct Graph {
     sources: Rows,
     sinks: Rows,

@@ -12,7 +12,7 @@ use history_index::Index;
 use std::alloc::Global;
 
 /// Something went from a group to a group.
-#[derive(Clone, Copy, Debug, PartialEq, Eq)]
+#[derive(Clone, Copy)]
 pub struct Link {
     pub from: u32,
     pub to: u32,

@@ -9,7 +9,7 @@ use std::alloc::Global;
 use std::marker::Model;
 
 /// Which numbers are found, and which of them are still to be followed.
-#[derive(Debug, Drop)]
+#[derive(Drop)]
 struct Search {
     marks: Vec<bool>,
     waiting: Vec<u32>,

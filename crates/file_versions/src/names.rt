@@ -8,7 +8,7 @@ use std::alloc::Global;
 use std::marker::Model;
 
 /// A name stands for a file, or for none.
-#[derive(Debug, Drop)]
+#[derive(Drop)]
 pub struct Naming<'a> {
     moment: u64,
     path: &'a [u8],
@@ -32,7 +32,7 @@ impl<'a> Naming<'a> {
 }
 
 /// The file that a name stands for from a moment on, if it stands for one.
-#[derive(Clone, Copy, Debug, PartialEq, Eq)]
+#[derive(Clone, Copy)]
 pub struct Change {
     pub moment: u64,
     pub file: Option<u32>,

@@ -12,7 +12,7 @@ use arn_base::{Extra, Record};
 use parts_model::calls::{OPEN, UNLINK, WRITE};
 
 /// What comes before a record: instructions, events and files that were brought.
-#[derive(Clone, Copy, Debug, PartialEq, Eq)]
+#[derive(Clone, Copy)]
 pub struct Before {
     pub ran: u64,
     pub events: u64,

@@ -11,7 +11,7 @@ use std::alloc::Global;
 use std::marker::Model;
 
 /// Bytes of an event, laid over those of a file.
-#[derive(Debug, Drop)]
+#[derive(Drop)]
 pub struct Writing<'a> {
     moment: u64,
     event: u64,

@@ -50,7 +50,7 @@ fn take_from(cache: &mut Cache, key: Key, extent: Extent) -> Option<Tracker>
 }
 
 /// The relations of groups that were asked about lately, each under its group and linkage, or none.
-#[derive(Debug, Drop)]
+#[derive(Drop)]
 pub struct Relations {
     pub(crate) alloc: Global,
     cache: Option<Cache>,

@@ -11,7 +11,7 @@ use history_index::{Index, SliceAt};
 /// How far a group has come at a moment: whether the event by which it begins has happened, how many of
 /// its slices do something up to the moment, how many instructions of the last of these come before it, and
 /// how many events of its own process stand behind that slice.
-#[derive(Clone, Copy, Debug, PartialEq, Eq)]
+#[derive(Clone, Copy, PartialEq, Eq)]
 pub struct Extent {
     is_begun: bool,
     slices: usize,

@@ -18,7 +18,7 @@ use asm_text::{AsmKind, Statement, StatementReading};
 use parts_model::limits::WINDOW_START;
 
 /// A fault of a line.
-#[derive(Clone, Copy, Debug)]
+#[derive(Clone, Copy)]
 pub(crate) struct Fault {
     pub(crate) line: u64,
     pub(crate) kind: AsmKind,

@@ -12,7 +12,7 @@ use asm_text::{StatementReading, read, trimmed};
 use std::alloc::Global;
 
 /// What is read of a statement, and the number of its line.
-#[derive(Clone, Copy, Debug)]
+#[derive(Clone, Copy)]
 pub(crate) struct Item<'a> {
     pub(crate) line: u64,
     pub(crate) reading: StatementReading<'a>,

@@ -25,7 +25,7 @@ use std::alloc::Global;
 pub(crate) const START: u32 = WINDOW_START as u32;
 
 /// A statement at its offset, and the first of the faults by which it takes no place.
-#[derive(Clone, Copy, Debug)]
+#[derive(Clone, Copy)]
 pub(crate) struct Placed<'a> {
     pub(crate) item: &'a Item<'a>,
     pub(crate) offset: u32,

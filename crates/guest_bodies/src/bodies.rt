@@ -32,7 +32,7 @@ use std::marker::Model;
 use std::sync::ledger::Ledger;
 
 /// The registers, save slots and memories of live processes, by process number.
-#[derive(Debug, Drop)]
+#[derive(Drop)]
 pub struct Bodies {
     alloc: Global,
     guests: Vec<Option<Guest>>,

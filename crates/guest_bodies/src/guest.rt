@@ -15,14 +15,14 @@ use guest_mem::Space;
 use guest_signals::Signals;
 
 /// A segment that a process holds: the event that made it, and its key in the table.
-#[derive(Clone, Copy, Debug)]
+#[derive(Clone, Copy)]
 pub struct Shared {
     pub made: u64,
     pub key: usize,
 }
 
 /// Registers, signals, the private window with the event that made it, and the segment that is held.
-#[derive(Debug, Drop)]
+#[derive(Drop)]
 pub struct Guest {
     pub cpu: Cpu,
     pub signals: Signals,

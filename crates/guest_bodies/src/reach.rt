@@ -10,7 +10,7 @@ use guest_mem::{Segment, Space, Spare};
 
 /// The private window of a process and, only while it runs or receives, the segment that it holds.
 /// Both are here by value, so that whoever serves one instruction can't leave others in their place.
-#[derive(Debug, Drop)]
+#[derive(Drop)]
 pub struct Reach {
     pub space: Space,
     pub segment: Option<Segment>,

@@ -9,7 +9,7 @@ use std::sync::ledger::Ledger;
 
 /// How many instructions ran that the next one follows, and what comes behind them: the next one where
 /// all ran that might.
-#[derive(Clone, Copy, Debug)]
+#[derive(Clone, Copy)]
 pub struct Stood {
     pub ran: u32,
     pub outcome: Outcome,

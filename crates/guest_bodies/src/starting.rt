@@ -12,7 +12,7 @@ use parts_model::limits::MOST_BLOCK_BYTES;
 use std::alloc::Global;
 
 /// Registers and private window of a process that starts.
-#[derive(Debug, Drop)]
+#[derive(Drop)]
 pub struct First {
     pub cpu: Cpu,
     pub space: Space,

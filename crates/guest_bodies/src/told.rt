@@ -11,7 +11,7 @@ use rv64_isa::Instr;
 use std::sync::ledger::Ledger;
 
 /// A process, and for at most how many instructions it goes on.
-#[derive(Clone, Copy, Debug)]
+#[derive(Clone, Copy)]
 pub struct Stretch {
     pub pid: u32,
     pub count: u32,

@@ -7,7 +7,7 @@ use arn_base::{Extra, NoMemory};
 use thiserror::Error;
 
 /// What a call came to: its result, and what its record holds beside it.
-#[derive(Debug, Drop, PartialEq, Eq)]
+#[derive(Drop)]
 pub struct Done {
     pub result: u64,
     pub extra: Extra,
@@ -32,7 +32,7 @@ impl From<NoMemory> for CallStop {
 
 /// A signal that was delivered. A handler of 0 is none: the process has ended. `cut` says that this
 /// ended a call that wasn't ready.
-#[derive(Clone, Copy, Debug, PartialEq, Eq)]
+#[derive(Clone, Copy)]
 pub struct Delivered {
     pub signal: u8,
     pub cut: bool,

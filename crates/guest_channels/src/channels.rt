@@ -22,7 +22,7 @@ use std::marker::Model;
 const MOST_MADE: u32 = 0x8000_0000;
 
 /// Pipes, and ports at which connections of two pipes each wait.
-#[derive(Debug, Drop)]
+#[derive(Drop)]
 pub struct Channels {
     pipes: Pipes,
     ports: Ports,

@@ -11,7 +11,7 @@ use std::marker::Model;
 
 /// Places side by side that hold bytes of one write: those from `start` on, until the next run or
 /// the end. The first byte of the write was written at `base`.
-#[derive(Clone, Copy, Debug)]
+#[derive(Clone, Copy)]
 pub struct Run {
     pub start: u32,
     pub base: u32,
@@ -174,7 +174,7 @@ fn origins_between(runs: &Vec<Run>, first: usize, place: u32, end: u32) -> Resul
 }
 
 /// The event byte of each place of a file.
-#[derive(Debug, Drop)]
+#[derive(Drop)]
 pub struct Runs {
     all: Vec<Run>,
     len: u32,

@@ -28,7 +28,7 @@ pub struct Leg {
 }
 
 /// A process, and for at most how many instructions it goes on.
-#[derive(Clone, Copy, Debug)]
+#[derive(Clone, Copy)]
 pub struct Pick {
     pub pid: u32,
     pub count: u32,

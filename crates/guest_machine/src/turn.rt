@@ -21,7 +21,7 @@ use std::sync::ledger::Ledger;
 
 /// What a turn did: how many instructions ran, and how many bytes its records are spelled by. `cut`
 /// says that a store or its call found no memory, and isn't of it.
-#[derive(Clone, Copy, Debug)]
+#[derive(Clone, Copy)]
 pub struct Taken {
     pub ran: u32,
     pub len: u64,

@@ -15,7 +15,7 @@ pub const PAGE_LEN: usize = 4096;
 pub const PAGE_COUNT: usize = 64;
 
 /// The bytes of a page: the window's own, or shared with other pages, which hold the same.
-#[derive(Debug, Drop)]
+#[derive(Drop)]
 pub enum Page {
     Own(Box<[u8; 4096]>),
     Shared(Rc<Box<[u8; 4096]>>),

@@ -19,7 +19,7 @@ const SHARED: Extent = Extent {
 };
 
 /// The bytes of a segment. Processes that hold it see them in the shared window, the first at `SEGMENT_START`.
-#[derive(Debug, Drop)]
+#[derive(Drop)]
 pub struct Segment {
     bytes: Vec<u8>,
 }

@@ -16,7 +16,7 @@ use std::marker::Model;
 
 /// The bytes of a private window, the first of them at `WINDOW_START`. They lie in pages, which spaces share until
 /// they are written.
-#[derive(Debug, Drop)]
+#[derive(Drop)]
 pub struct Space {
     pages: Vec<Page>,
 }

@@ -9,7 +9,7 @@ use std::marker::Model;
 
 /// Memory for pages, in hand before it is needed: who writes with it takes none. It is seen as the
 /// number of pages.
-#[derive(Debug, Drop)]
+#[derive(Drop)]
 pub struct Spare {
     pub(crate) pages: Vec<Box<[u8; 4096]>>,
 }

@@ -7,7 +7,7 @@ use crate::pipe::Pipe;
 use slab::Slab;
 
 /// A pipe, and its number.
-#[derive(Debug, Drop)]
+#[derive(Drop)]
 pub struct Entry {
     pub number: u32,
     pub pipe: Pipe,

@@ -19,7 +19,7 @@ const MOST_BYTES: usize = MOST_PIPE_BYTES as usize;
 /// which ends are open. Bytes that were taken stay before those that wait, until bytes are put while
 /// more were taken than wait. The runs tell of which events those that wait are; so many places of
 /// the first run are gone.
-#[derive(Debug, Drop)]
+#[derive(Drop)]
 pub struct Pipe {
     taken: u64,
     head: usize,

@@ -19,7 +19,7 @@ const MOST: usize = MOST_PIPES as usize;
 
 /// Pipes, numbered from 0 in the order of their making. A number is never given again. A pipe
 /// without ends is gone, and its bytes with it.
-#[derive(Debug, Drop)]
+#[derive(Drop)]
 pub struct Pipes {
     alloc: Global,
     table: Slab<Entry>,

@@ -7,7 +7,7 @@ use arn_base::{NoMemory, Origin, Origins};
 use std::collections::VecDeque;
 
 /// The first bytes of an event, so many.
-#[derive(Clone, Copy, Debug)]
+#[derive(Clone, Copy)]
 pub struct Run {
     pub event: u64,
     pub len: u32,

@@ -16,7 +16,7 @@ use parts_model::limits::{MOST_DESCRIPTORS, MOST_PROCESSES};
 use std::alloc::Global;
 
 /// The processes, and in order the numbers of those that are there and of those that live.
-#[derive(Debug, Drop)]
+#[derive(Drop)]
 pub struct Lists {
     pub table: Table,
     pub present: Vec<u32>,

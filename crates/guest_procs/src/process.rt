@@ -11,14 +11,14 @@ use parts_model::limits::MOST_DESCRIPTORS;
 const COUNT: usize = MOST_DESCRIPTORS as usize;
 
 /// It lives, or an event has ended it with a status.
-#[derive(Clone, Copy, Debug)]
+#[derive(Clone, Copy)]
 pub enum Life {
     Live,
     Ended { status: u8, event: u64 },
 }
 
 /// A process: its parent while that lives, and what each descriptor stands for.
-#[derive(Clone, Copy, Debug)]
+#[derive(Clone, Copy)]
 pub struct Process {
     pub life: Life,
     pub parent: Option<u32>,

@@ -14,7 +14,7 @@ use std::alloc::Global;
 use std::marker::Model;
 
 /// The processes by number, the first being 1. A number isn't given again.
-#[derive(Debug, Drop)]
+#[derive(Drop)]
 pub struct Procs {
     lists: Lists,
 }

@@ -15,7 +15,7 @@ use std::alloc::Global;
 use std::marker::Model;
 
 /// The processes that were made, the first being 1.
-#[derive(Debug, Drop)]
+#[derive(Drop)]
 pub struct Table {
     all: Vec<Option<Process>>,
 }

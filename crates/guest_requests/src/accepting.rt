@@ -12,7 +12,7 @@ use parts_model::refusals::{BAD_DESCRIPTOR, NO_DESCRIPTOR_ROOM};
 use parts_model::{Conn, Description};
 
 /// What an accept comes to.
-#[derive(Clone, Copy, Debug, PartialEq, Eq)]
+#[derive(Clone, Copy)]
 pub enum Accepting {
     /// It isn't ready.
     Waits,

@@ -12,7 +12,7 @@ use crate::tables::Tables;
 use parts_model::refusals::NO_DESCRIPTOR_ROOM;
 
 /// What a call that opens a device comes to.
-#[derive(Clone, Copy, Debug, PartialEq, Eq)]
+#[derive(Clone, Copy)]
 pub enum Opening {
     /// It ends with this result and opens nothing.
     Answers { answer: u64 },

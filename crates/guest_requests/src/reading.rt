@@ -15,7 +15,7 @@ use parts_model::Description;
 use parts_model::refusals::BAD_DESCRIPTOR;
 
 /// A place in a file, and the description whose place it is.
-#[derive(Clone, Copy, Debug, PartialEq, Eq)]
+#[derive(Clone, Copy)]
 pub struct Place {
     pub number: u32,
     pub file: u32,
@@ -23,7 +23,7 @@ pub struct Place {
 }
 
 /// What a read comes to.
-#[derive(Clone, Copy, Debug, PartialEq, Eq)]
+#[derive(Clone, Copy)]
 pub enum Reading {
     /// It isn't ready.
     Waits,

@@ -16,7 +16,7 @@ use parts_model::limits::GREATEST_SIGNAL;
 use parts_model::refusals::{BAD_ARGUMENT, NO_PROCESS};
 
 /// What a kill comes to.
-#[derive(Clone, Copy, Debug, PartialEq, Eq)]
+#[derive(Clone, Copy)]
 pub enum Killing {
     /// It ends with this result and does nothing else.
     Answers { answer: u64 },

@@ -17,7 +17,7 @@ use parts_model::TaggedByte;
 use parts_model::refusals::{BAD_ADDRESS, NO_CHILD};
 
 /// What a wait comes to.
-#[derive(Clone, Copy, Debug, PartialEq, Eq)]
+#[derive(Clone, Copy)]
 pub enum Waiting {
     /// It isn't ready.
     Waits,

@@ -18,7 +18,7 @@ use parts_model::Description;
 use parts_model::refusals::BAD_DESCRIPTOR;
 
 /// What a write comes to.
-#[derive(Clone, Copy, Debug, PartialEq, Eq)]
+#[derive(Clone, Copy)]
 pub enum Writing {
     /// It isn't ready.
     Waits,

@@ -10,7 +10,7 @@ use std::marker::Model;
 
 /// Typed bytes that no process has read yet, and how many have been read. Bytes that were read stay
 /// in front of the others until they are as many.
-#[derive(Debug, Drop)]
+#[derive(Drop)]
 pub struct Console {
     taken: u64,
     head: usize,

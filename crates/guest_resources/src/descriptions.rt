@@ -14,7 +14,7 @@ use std::marker::Model;
 const MOST: usize = 0x8000_0000;
 
 /// What an open description is, and how many descriptors stand for it.
-#[derive(Clone, Copy, Debug, PartialEq, Eq)]
+#[derive(Clone, Copy)]
 pub struct Opened {
     pub what: Description,
     pub descriptors: u32,
@@ -22,7 +22,7 @@ pub struct Opened {
 
 /// The descriptions that were opened, numbered from 0. One without descriptors is gone, and its
 /// number isn't given again.
-#[derive(Debug, Drop)]
+#[derive(Drop)]
 pub struct Descriptions {
     all: Vec<Option<Opened>>,
 }

@@ -24,7 +24,7 @@ use std::marker::Model;
 const MOST_MADE: usize = 0x8000_0000;
 
 /// A file that was opened, and the number of the description.
-#[derive(Clone, Copy, Debug, PartialEq, Eq)]
+#[derive(Clone, Copy)]
 pub struct OpenFile {
     pub file: u32,
     pub description: u32,

@@ -12,7 +12,7 @@ const COUNT: usize = GREATEST_SIGNAL as usize;
 
 /// The handlers, the pending signals and the save slot of one process. A handler is an address, 0 where there is none. The
 /// lowest digit of `pending` stands for signal 1.
-#[derive(Debug, Drop)]
+#[derive(Drop)]
 pub struct Signals {
     handlers: [u64; COUNT],
     pending: u32,

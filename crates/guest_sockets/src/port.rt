@@ -12,7 +12,7 @@ use std::marker::Model;
 const MOST: usize = MOST_WAITING as usize;
 
 /// A port that is listened to, and the connections that wait at it, the oldest first.
-#[derive(Debug, Drop)]
+#[derive(Drop)]
 pub struct Port {
     number: u16,
     waiting: Vec<Conn>,

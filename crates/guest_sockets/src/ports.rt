@@ -14,7 +14,7 @@ use std::marker::Model;
 const MOST: usize = MOST_PORTS as usize;
 
 /// The ports that are listened to, in the order in which this began.
-#[derive(Debug, Drop)]
+#[derive(Drop)]
 pub struct Ports {
     all: Vec<Port>,
 }

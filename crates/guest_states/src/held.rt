@@ -7,7 +7,7 @@ use std::alloc::Global;
 
 /// Memories in the order in which they were found: the events that made them, and their blocks that
 /// aren't all zero.
-#[derive(Debug, Drop)]
+#[derive(Drop)]
 pub struct Held {
     pub names: Vec<u64>,
     pub memories: Windows,

@@ -11,7 +11,7 @@ use guest_bodies::Bodies;
 use std::alloc::Global;
 
 /// What is told so far: processes, and the memories that they hold.
-#[derive(Debug, Drop)]
+#[derive(Drop)]
 struct Telling {
     members: Members,
     windows: Held,

@@ -5,7 +5,7 @@ ghost use Rattle.history_index.specs.AtHand.{behind_of};
 
 use arn_base::Record;
 
-#[derive(Clone, Copy, Debug, PartialEq, Eq)]
+#[derive(Clone, Copy, PartialEq, Eq)]
 pub enum AtHand {
     Nothing,
     Slice(u32),

@@ -6,7 +6,7 @@ ghost use Rattle.history_index.specs.Lookups.{moment_in};
 use arn_base::Record;
 
 /// An event: the number of its record, its moment, its process, and how many bytes it has.
-#[derive(Clone, Copy, Debug, PartialEq, Eq)]
+#[derive(Clone, Copy)]
 pub struct EventAt {
     pub moment: u64,
     pub place: u32,

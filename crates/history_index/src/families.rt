@@ -17,7 +17,7 @@ use std::alloc::Global;
 use std::marker::Model;
 
 /// The group of each process and whether it lives, the groups, and what each has run.
-#[derive(Debug, Drop)]
+#[derive(Drop)]
 pub struct Families {
     groups: Groups,
     founders: Vec<u32>,

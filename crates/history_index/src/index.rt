@@ -22,7 +22,7 @@ use std::alloc::Global;
 use std::marker::Model;
 
 /// Tables of a history.
-#[derive(Debug, Drop)]
+#[derive(Drop)]
 pub struct Index {
     records: u64,
     total: u64,

@@ -8,7 +8,7 @@ use std::alloc::Global;
 use std::marker::Model;
 
 /// The slices of a group, and how many instructions they count.
-#[derive(Debug, Drop)]
+#[derive(Drop)]
 pub struct Run {
     count: u64,
     slices: Vec<SliceAt>,

@@ -2,7 +2,7 @@
 use set_store::Item;
 
 /// Which byte of an event.
-#[derive(Clone, Copy, Debug, PartialEq, Eq)]
+#[derive(Clone, Copy)]
 pub enum Place {
     /// A byte of the event, counted from 0.
     Byte(u64),
@@ -12,7 +12,7 @@ pub enum Place {
 }
 
 /// What byte `byte` of the target takes.
-#[derive(Clone, Copy, Debug, PartialEq, Eq)]
+#[derive(Clone, Copy)]
 pub enum Demand {
     /// A byte of an event, as the event shows it.
     Event { event: u64, place: Place, byte: u32 },

@@ -14,7 +14,7 @@ use std::marker::Model;
 const MANY: usize = 0x10_0000;
 
 /// A pair, in the order of pairs.
-#[derive(Clone, Copy, Debug, PartialEq, Eq, PartialOrd, Ord)]
+#[derive(Clone, Copy, PartialEq, Eq, PartialOrd, Ord)]
 pub struct Hit {
     pub byte: u32,
     pub event: u64,

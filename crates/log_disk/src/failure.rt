@@ -16,7 +16,7 @@ pub enum Attempt {
 }
 
 /// An attempt that failed, and the host's error.
-#[derive(Clone, Copy, Debug)]
+#[derive(Clone, Copy)]
 pub struct Failure {
     pub attempt: Attempt,
     pub error: io::Error,

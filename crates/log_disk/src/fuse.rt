@@ -5,7 +5,7 @@ ghost use Rattle.arn_base.specs.Faults.{greatest, NeverFalls};
 use arn_base::{Failed, Numbers};
 
 /// Counts calls, from 0 on, and fails those whose numbers are listed.
-#[derive(Debug, Drop)]
+#[derive(Drop)]
 pub struct CallFuse {
     pub fails: Numbers,
     pub calls: u64,

@@ -12,7 +12,7 @@ use std::alloc::Global;
 
 /// What a disk holds, what was written and how long it was since the last sync, and what it held
 /// before each change.
-#[derive(Debug, Drop)]
+#[derive(Drop)]
 pub struct Medium {
     pub alloc: Global,
     pub image: Image,

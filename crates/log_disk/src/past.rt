@@ -3,7 +3,7 @@ use crate::ranges::Range;
 
 /// What a change took away: the bytes that stood from a place on, the length, and what a crash
 /// before the change could have left of the bytes.
-#[derive(Debug, Drop)]
+#[derive(Drop)]
 pub struct Past {
     pub at: usize,
     pub bytes: Vec<u8>,

@@ -5,7 +5,7 @@ ghost use Rattle.log_disk.specs.Crash.{Covers};
 use arn_base::NoMemory;
 
 /// The places from a start to before an end.
-#[derive(Clone, Copy, Debug, PartialEq, Eq)]
+#[derive(Clone, Copy)]
 pub struct Range {
     pub start: usize,
     pub end: usize,

@@ -20,7 +20,7 @@ use std::marker::Model;
 
 /// The records of a log, and where the log ends. The disk isn't held: each commit is handed the one
 /// that was opened.
-#[derive(Debug, Drop)]
+#[derive(Drop)]
 pub struct Store {
     alloc: Global,
     entries: Vec<Record>,

@@ -10,7 +10,7 @@ pub struct Conn {
 }
 
 /// What an open descriptor stands for. Descriptors that are copies of each other share one.
-#[derive(Clone, Copy, Debug, PartialEq, Eq)]
+#[derive(Clone, Copy)]
 pub enum Description {
     Console,
     /// A file, and the place of the next read or write.

@@ -1,7 +1,7 @@
 use arn_base::Src;
 
 /// A byte, and the event byte that last wrote it.
-#[derive(Clone, Copy, Debug, PartialEq, Eq)]
+#[derive(Clone, Copy)]
 pub struct TaggedByte {
     pub value: u8,
     pub origin: Src,

@@ -12,7 +12,7 @@ use history_index::Index;
 use parts_model::calls::{EXIT, FORK};
 
 /// A process that begins or ends, and whether it lives from then on.
-#[derive(Clone, Copy, Debug, PartialEq, Eq)]
+#[derive(Clone, Copy)]
 pub struct Life {
     pub pid: u64,
     pub lives: bool,

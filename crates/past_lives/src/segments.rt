@@ -11,7 +11,7 @@ use history_index::Index;
 use parts_model::calls::{EXEC, FORK, SHM};
 
 /// Where a process has its segment from, at an event.
-#[derive(Clone, Copy, Debug, PartialEq, Eq)]
+#[derive(Clone, Copy)]
 pub enum Source {
     /// This process held it before.
     Process(u32),

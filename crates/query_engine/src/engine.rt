@@ -38,7 +38,7 @@ use std::sync::ledger::Ledger;
 use window_laws::blocks_are_whole;
 
 /// Of which bytes is asked where they come from.
-#[derive(Debug, Drop)]
+#[derive(Drop)]
 pub enum Target {
     /// Bytes of an event.
     Event {
@@ -80,7 +80,7 @@ pub struct Answer {
 
 /// Answers queries, and keeps what followed the groups that were asked lately. The records of a later query
 /// begin with those of the earlier ones.
-#[derive(Debug, Drop)]
+#[derive(Drop)]
 pub struct Engine {
     pub(crate) alloc: Global,
     pub(crate) kept: Relations,

@@ -1,7 +1,7 @@
 // Bytes of past states.
 
 /// Which bytes of a process.
-#[derive(Clone, Copy, Debug, PartialEq, Eq)]
+#[derive(Clone, Copy)]
 pub enum Part {
     /// The eight bytes of a register.
     Register(u8),
@@ -10,7 +10,7 @@ pub enum Part {
 }
 
 /// Bytes that a process holds at a moment.
-#[derive(Clone, Copy, Debug, PartialEq, Eq)]
+#[derive(Clone, Copy)]
 pub struct Held {
     pub moment: u64,
     pub pid: u32,

@@ -9,7 +9,7 @@ use std::marker::Model;
 
 /// The group of each process. Processes are numbered from 1 in the order of their making, and a group has the number of
 /// the process that started it.
-#[derive(Debug, Drop)]
+#[derive(Drop)]
 pub struct Groups {
     lists: Lists,
     reserved: Option<u32>,

@@ -9,7 +9,7 @@ use std::alloc::Global;
 use std::mem;
 
 /// The group of each process, and the members of the group that each started.
-#[derive(Debug, Drop)]
+#[derive(Drop)]
 pub struct Lists {
     pub groups: Vec<u32>,
     pub members: Vec<Vec<u32>>,

@@ -15,7 +15,7 @@ const PLACES: usize = 512;
 const ECALL: u32 = 0x73;
 
 // A word and its instruction.
-#[derive(Clone, Copy, Debug)]
+#[derive(Clone, Copy)]
 struct Known {
     word: u32,
     instr: Instr,
@@ -24,7 +24,7 @@ struct Known {
 /// Decodes words, and remembers at each place the word that was decoded there last. The address at
 /// which a word stands says its place. An instruction is taken from there only where the word is
 /// the same, so it doesn't matter what is written to the memory.
-#[derive(Debug, Drop)]
+#[derive(Drop)]
 pub struct Decoder {
     known: Vec<Known>,
 }

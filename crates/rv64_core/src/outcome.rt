@@ -14,7 +14,7 @@ pub enum Outcome {
 }
 
 /// An instruction that would take effect, and what it would do to the registers.
-#[derive(Clone, Copy, Debug, PartialEq, Eq)]
+#[derive(Clone, Copy, PartialEq, Eq)]
 pub struct Planned {
     pub instr: Instr,
     /// The register that it writes, x0 where it writes none.
@@ -26,7 +26,7 @@ pub struct Planned {
 }
 
 /// What the instruction at pc would come to.
-#[derive(Clone, Copy, Debug, PartialEq, Eq)]
+#[derive(Clone, Copy, PartialEq, Eq)]
 pub enum Prospect {
     /// This one would take effect: it may be executed.
     Next(Planned),

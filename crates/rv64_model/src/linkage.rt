@@ -1,5 +1,5 @@
 /// Which instructions carry a dependence.
-#[derive(Clone, Copy, Debug, PartialEq, Eq)]
+#[derive(Clone, Copy)]
 pub enum Linkage {
     /// Bytes that are moved whole: by a move, a load or a store.
     Copy,

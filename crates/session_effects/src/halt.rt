@@ -4,7 +4,7 @@ use log_store::CommitError;
 use std::alloc::AllocError;
 
 /// Why a session ends before its text does.
-#[derive(Clone, Copy, Debug, PartialEq, Eq)]
+#[derive(Clone, Copy)]
 pub enum Halt {
     NoMemory,
     /// The source failed.

@@ -23,7 +23,7 @@ pub const KEEP: u32 = 8;
 
 /// Answers questions about a history from its records, from an index of them, and from what followed groups
 /// for the questions before.
-#[derive(Debug, Drop)]
+#[derive(Drop)]
 pub struct Asking {
     pub(crate) index: Index,
     pub(crate) engine: Engine,

@@ -15,7 +15,7 @@ use state_viewer::{QueryError, memory, registers};
 use std::sync::ledger::Ledger;
 
 /// Bytes that a process has at a moment.
-#[derive(Clone, Copy, Debug)]
+#[derive(Clone, Copy)]
 pub struct MemoryBytes {
     pub moment: u64,
     pub pid: u64,

@@ -8,7 +8,7 @@ use crate::item::Item;
 use arn_base::NoMemory;
 
 /// Where the members of a set part: those whose key has the bit are in the right part.
-#[derive(Clone, Copy, Debug, PartialEq, Eq, Hash)]
+#[derive(Clone, Copy, PartialEq, Eq, Hash)]
 pub struct Fork {
     /// The event of the lowest member.
     pub event: u64,
@@ -23,7 +23,7 @@ pub struct Fork {
 }
 
 /// Members with one key: bytes of one event, of one row of 64.
-#[derive(Clone, Copy, Debug, PartialEq, Eq, Hash)]
+#[derive(Clone, Copy, PartialEq, Eq, Hash)]
 pub struct Row {
     /// The event's number.
     pub event: u64,
@@ -34,7 +34,7 @@ pub struct Row {
 }
 
 /// A set, as it is made of others.
-#[derive(Clone, Copy, Debug, PartialEq, Eq, Hash)]
+#[derive(Clone, Copy, PartialEq, Eq, Hash)]
 pub enum Node {
     /// No item.
     Empty,

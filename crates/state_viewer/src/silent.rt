@@ -6,7 +6,7 @@ use arn_base::{Cpu, NoMemory, Record};
 use rv64_isa::Instr;
 
 /// Keeps nothing of what it is told.
-#[derive(Clone, Copy, Debug, PartialEq, Eq)]
+#[derive(Clone, Copy)]
 pub struct Silent;
 
 impl Observer for Silent {

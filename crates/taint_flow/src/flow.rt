@@ -11,7 +11,7 @@ use rv64_isa::{ImmOp, Instr, LoadOp, Reg, RegOp, StoreOp};
 use rv64_model::{Linkage, load_len, store_len};
 
 /// Where the bytes of an instruction's result come from.
-#[derive(Clone, Copy, Debug, PartialEq, Eq)]
+#[derive(Clone, Copy)]
 pub enum Flow {
     /// They take nothing.
     Nothing,

@@ -17,7 +17,7 @@ use taint_spans::Carrying;
 pub const WINDOW_PAGES: usize = 64;
 
 /// A segment that a member holds: the event that made it, and its key in the table.
-#[derive(Clone, Copy, Debug, PartialEq, Eq)]
+#[derive(Clone, Copy)]
 pub struct Shared {
     pub made: u64,
     pub key: usize,
@@ -25,7 +25,7 @@ pub struct Shared {
 
 /// The numbers of the sets of a member's bytes: of its registers, of what its slot keeps of them, and of its private
 /// window, with the event that made it; and the segment that it holds.
-#[derive(Debug, Drop)]
+#[derive(Drop)]
 pub struct MemberSets {
     pub registers: Row,
     pub slot: Row,

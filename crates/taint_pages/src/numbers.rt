@@ -15,7 +15,7 @@ use taint_spans::Carrying;
 
 /// The number of the set of each byte of a memory. A page whose bytes weren't set takes no memory, and neither does one that memories
 /// share, until it is written.
-#[derive(Debug, Drop)]
+#[derive(Drop)]
 pub struct SetNumbers {
     pages: Vec<Page>,
     unset: Unset,

@@ -17,7 +17,7 @@ use taint_spans::{Carrying, FIRST_RECEIVED};
 pub const PAGE_LEN: usize = 4096;
 
 /// Which number a byte has that wasn't set.
-#[derive(Clone, Copy, Debug, PartialEq, Eq)]
+#[derive(Clone, Copy)]
 pub enum Unset {
     /// 0.
     Zero,
@@ -27,7 +27,7 @@ pub enum Unset {
 
 /// The numbers of the bytes of a page. Those of bytes that weren't set may be absent. Kept ones are the memory's own, or shared with
 /// other memories, which have the same, until they are written.
-#[derive(Debug, Drop)]
+#[derive(Drop)]
 pub enum Page {
     Absent,
     Own(Vec<u32>),

@@ -11,14 +11,14 @@ use taint_spans::Carrying;
 
 /// The number of the set of each byte of the registers, and which registers are marked. The bytes of x0 have 0, and so have those of
 /// each register that isn't marked.
-#[derive(Clone, Copy, Debug)]
+#[derive(Clone, Copy)]
 struct Numbers {
     numbers: [u32; 256],
     marked: [bool; 32],
 }
 
 /// The number of the set of each byte of the registers. They stand in a box, so tables of rows are small.
-#[derive(Debug, Drop)]
+#[derive(Drop)]
 pub struct Row {
     kept: Box<Numbers>,
 }

@@ -5,7 +5,7 @@ ghost use Rattle.taint_sets.specs.Runs.{AreInOrder, IsRunBefore, byte_behind, it
 use set_store::Item;
 
 /// Bytes of an event in a row, whose numbers follow each other.
-#[derive(Clone, Copy, Debug)]
+#[derive(Clone, Copy)]
 pub struct Run {
     /// The number of the first.
     pub first: u32,

@@ -3,7 +3,7 @@ ghost use Rattle.std.specs.Prelude.{IsTrue, IfSome};
 ghost use Rattle.taint_spans.specs.Spans.{HasBytes, IsWithin, Lengthens};
 
 /// A set, and so many received bytes besides, from one on.
-#[derive(Clone, Copy, Debug, PartialEq, Eq)]
+#[derive(Clone, Copy, PartialEq, Eq)]
 pub struct Span {
     /// The set's number.
     pub base: u32,

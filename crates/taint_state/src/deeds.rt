@@ -12,7 +12,7 @@ use parts_model::calls;
 use parts_model::limits::MOST_TRANSFER;
 
 /// Where the body of an image lies, and the argument block, by its address in the old memory.
-#[derive(Clone, Copy, Debug)]
+#[derive(Clone, Copy)]
 pub struct Layout {
     pub load: u64,
     pub block: u64,
@@ -20,7 +20,7 @@ pub struct Layout {
 }
 
 /// What an event does to what is kept of its process. Bytes that it moves are as many as it has.
-#[derive(Clone, Copy, Debug)]
+#[derive(Clone, Copy)]
 pub enum Deed {
     /// A call returns, and no more.
     Returns,

@@ -13,7 +13,7 @@ use taint_pages::{Row, SetNumbers};
 use taint_spans::Carrying;
 
 /// The bytes with which a child began that started a group.
-#[derive(Debug, Drop)]
+#[derive(Drop)]
 pub struct ChildStart {
     pub registers: Row,
     pub slot: Row,
@@ -21,14 +21,14 @@ pub struct ChildStart {
 }
 
 /// What an event moved: the sets of its bytes, and what a child began with.
-#[derive(Debug, Drop)]
+#[derive(Drop)]
 pub struct Moved {
     pub numbers: Vec<u32>,
     pub start: Option<Box<ChildStart>>,
 }
 
 /// An event of a member. One that moved nothing takes no more than this.
-#[derive(Debug, Drop)]
+#[derive(Drop)]
 pub struct HeardEvent {
     pub event: u64,
     pub moved: Option<Box<Moved>>,

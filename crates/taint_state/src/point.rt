@@ -1,5 +1,5 @@
 /// A byte of which one may ask what reaches it.
-#[derive(Clone, Copy, Debug, PartialEq, Eq)]
+#[derive(Clone, Copy)]
 pub enum Point {
     /// Byte `at` of an event of a member.
     Event { event: u64, at: u32 },
