@@ -1,5 +1,5 @@
 -- A group whose sets are carried over.
-use Rattle.std.proofs.Common.{◌≡◌, ℕ, zero, suc, ◌+◌, ◌<◌, ◌≤◌, ◌==◌, nat_lt, Bool, true, false, List, [], ◌∷◌, map, length, slice_index_or, slice_set, Option, None, Some, IfSome, option_map, refl, sym, subst, ap, ◌∙◌, arith}
+use Rattle.std.proofs.Common.{◌≡◌, ℕ, zero, suc, ◌+◌, ◌<◌, ◌≤◌, ◌==◌, nat_lt, Bool, true, false, List, [], ◌∷◌, map, length, slice_index_or, slice_set, Option, None, Some, Result, Ok, Err, OnOk, IfSome, option_map, refl, sym, subst, ap, ◌∙◌, arith}
 use Rattle.std.proofs.Math.ListN.{get_or-eq_default}
 use Rattle.std.proofs.lemmas.Bool.{eqb-true, eqb-false, ltb-true, ltb-false}
 use Rattle.std.proofs.lemmas.Grind.{get_or-set_at}
@@ -183,52 +183,54 @@ still-keyed sets x y carried both keyed = record {
       (nth x.members p) (nth y.members p) (both p) (keyed.once p q);
 }
 
--- tables that are carried over, one after the other
+-- segments and members that were carried over stay so
+pub segments-still : (a b : Carried) (old new : Segments) → CarriesOn a b → CarriesSegments a old new → CarriesSegments b old new
+segments-still a b old new on h = record { count = h.count; each = λ key. have-still a b (slice_index_or old key []) (slice_index_or new key []) on (h.each key) }
+
+pub members-still : (a b c : Carried) (old new : List (Option MemberSets)) → CarriesOn a b → CarriesOn b c → ((p : ℕ) → IfBoth (CarriesMember a) (nth old p) (nth new p)) → (p : ℕ) → IfBoth (CarriesMember c) (nth old p) (nth new p)
+members-still a b c old new f g h p = entry-still a c (nth old p) (nth new p) (on-twice a b c f g) (h p)
+
+pub on-thrice : (a b c d : Carried) → CarriesOn a b → CarriesOn b c → CarriesOn c d → CarriesOn a d
+on-thrice a b c d f g h = on-twice a b d f (on-twice b c d g h)
+
+-- tables that are carried over
 pub record Collects (begun : Carried) (linkage : Linkage) (heard fresh : List KeptHeard) (x y : Tables) : Type 0 where
-  pub members_done : Carried
-  pub segments_done : Carried
-  pub all_done : Carried
+  pub done : Carried
   pub from : begun.from ≡ x.sets
   pub zero : HasNumber begun 0 0
-  pub on_members : CarriesOn begun members_done
-  pub on_segments : CarriesOn members_done segments_done
-  pub on_events : CarriesOn segments_done all_done
-  pub members : (p : ℕ) → IfBoth (CarriesMember members_done) (nth x.members p) (nth y.members p)
-  pub segments : CarriesSegments segments_done x.segments y.segments
-  pub events : CarriesEvents all_done heard fresh
-  pub into : y.sets ≡ all_done.into
+  pub on : CarriesOn begun done
+  pub members : (p : ℕ) → IfBoth (CarriesMember done) (nth x.members p) (nth y.members p)
+  pub segments : CarriesSegments done x.segments y.segments
+  pub events : CarriesEvents done heard fresh
+  pub into : y.sets ≡ done.into
 
 pub collected : (begun : Carried) (linkage : Linkage) (heard fresh : List KeptHeard) (x y : Tables) → CarriesShow → Collects begun linkage heard fresh x y → AreSoundTables linkage heard x
     → (shown (kept_in linkage fresh y) ≡ shown (kept_in linkage heard x)) × AreSoundTables linkage fresh y
-collected begun linkage heard fresh x y show c sound = (same.shown, record { kept = same.sound sound.kept; keyed = keyed })
+collected begun linkage heard fresh x y show c sound = (same.shown, record { kept = same.sound sound.kept; keyed = still-keyed c.done x y c.segments c.members sound.keyed })
   where
-    sets : Carried
-    sets = c.all_done
-
-    last : CarriesOn c.members_done c.all_done
-    last = on-twice c.members_done c.segments_done c.all_done c.on_segments c.on_events
-
-    segments : CarriesSegments c.all_done x.segments y.segments
-    segments = record { count = c.segments.count; each = λ key. have-still c.segments_done c.all_done _ _ c.on_events (c.segments.each key) }
-
-    members : (p : ℕ) → IfBoth (CarriesMember c.all_done) (nth x.members p) (nth y.members p)
-    members p = entry-still c.members_done c.all_done (nth x.members p) (nth y.members p) last (c.members p)
-
-    kept : (p : ℕ) → IfBoth (state.CarriesMember c.all_done) (nth (map (option_map (kept_member x.segments)) x.members) p) (nth (map (option_map (kept_member y.segments)) y.members) p)
+    kept : (p : ℕ) → IfBoth (state.CarriesMember c.done) (nth (map (option_map (kept_member x.segments)) x.members) p) (nth (map (option_map (kept_member y.segments)) y.members) p)
     kept p =
-        subst (λ o. IfBoth (state.CarriesMember c.all_done) o (nth (map (option_map (kept_member y.segments)) y.members) p)) (sym (nth-map (kept_member x.segments) x.members p))
-        (subst (λ o. IfBoth (state.CarriesMember c.all_done) (option_map (kept_member x.segments) (nth x.members p)) o) (sym (nth-map (kept_member y.segments) y.members p))
-        (both-map (CarriesMember c.all_done) (state.CarriesMember c.all_done) (kept_member x.segments) (kept_member y.segments) (member-kept c.all_done x.segments y.segments segments) (nth x.members p) (nth y.members p) (members p)))
+        subst (λ o. IfBoth (state.CarriesMember c.done) o (nth (map (option_map (kept_member y.segments)) y.members) p)) (sym (nth-map (kept_member x.segments) x.members p))
+        (subst (λ o. IfBoth (state.CarriesMember c.done) (option_map (kept_member x.segments) (nth x.members p)) o) (sym (nth-map (kept_member y.segments) y.members p))
+        (both-map (CarriesMember c.done) (state.CarriesMember c.done) (kept_member x.segments) (kept_member y.segments) (member-kept c.done x.segments y.segments c.segments) (nth x.members p) (nth y.members p) (c.members p)))
 
     same : state.ShowsSame (kept_in linkage heard x) (kept_in linkage fresh y)
-    same = show c.all_done (kept_in linkage heard x) (kept_in linkage fresh y) (record {
+    same = show c.done (kept_in linkage heard x) (kept_in linkage fresh y) (record {
       linkage = refl;
-      from = (on-twice begun c.members_done c.all_done c.on_members last).from ∙ c.from;
+      from = c.on.from ∙ c.from;
       into = c.into;
-      zero = (on-twice begun c.members_done c.all_done c.on_members last).still 0 0 c.zero;
+      zero = c.on.still 0 0 c.zero;
       members = kept;
       heard = c.events;
     })
 
-    keyed : AreKeyed y
-    keyed = still-keyed c.all_done x y segments members sound.keyed
+-- the parts come to this where all of them were carried over
+module _ {E : Type 0} (r : Result Unit E) (begun done : Carried) (linkage : Linkage) (heard fresh : List KeptHeard) (x y : Tables) (show : CarriesShow) (from : begun.from ≡ x.sets) (zero : HasNumber begun 0 0) (into : y.sets ≡ done.into) (sound : AreSoundTables linkage heard x) where
+  pub all-collected : OnOk r ((p : ℕ) → IfBoth (CarriesMember done) (nth x.members p) (nth y.members p)) → OnOk r (CarriesSegments done x.segments y.segments) → OnOk r (CarriesEvents done heard fresh) → OnOk r (CarriesOn begun done)
+      → OnOk r ((shown (kept_in linkage fresh y) ≡ shown (kept_in linkage heard x)) × AreSoundTables linkage fresh y)
+  all-collected members segments events on = by r members segments events on
+    where
+      by : (q : Result Unit E) → OnOk q ((p : ℕ) → IfBoth (CarriesMember done) (nth x.members p) (nth y.members p)) → OnOk q (CarriesSegments done x.segments y.segments) → OnOk q (CarriesEvents done heard fresh) → OnOk q (CarriesOn begun done)
+          → OnOk q ((shown (kept_in linkage fresh y) ≡ shown (kept_in linkage heard x)) × AreSoundTables linkage fresh y)
+      by (Ok u) members segments events on = collected begun linkage heard fresh x y show (record { done = done; from = from; zero = zero; on = on; members = members; segments = segments; events = events; into = into }) sound
+      by (Err e) members segments events on = tt

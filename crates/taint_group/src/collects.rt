@@ -5,7 +5,8 @@ ghost use Rattle.taint_members.specs.Carried.{CarriesMember};
 ghost use Rattle.taint_spans.specs.Carried.{CarriesOn};
 ghost use Rattle.taint_group.specs.Carried.{CarriesSegments};
 ghost use Rattle.taint_group.specs.Groups.{IsSoundGroup, kept_of};
-ghost use Rattle.taint_state.specs.Carried.{IfBoth};
+ghost use Rattle.taint_state.specs.Carried.{CarriesEvents, IfBoth};
+ghost use Rattle.taint_state.specs.Heard.{heard_in};
 ghost use Rattle.taint_state.specs.Kept.{shown};
 
 use crate::group::{Group, MEMO};
@@ -14,7 +15,7 @@ use std::mem;
 use taint_members::MemberSets;
 use taint_pages::SetNumbers;
 use taint_spans::{Carrying, SpanSets};
-use taint_state::carries_show;
+use taint_state::{HeardEvents, carries_show};
 
 /// Gives each byte of a member that may be there the number that its set has from now on.
 fn carry_entry(carrying: &mut Carrying, entry: &mut Option<MemberSets>) -> Result<(), NoMemory>
@@ -54,6 +55,33 @@ fn carry_segments(carrying: &mut Carrying, segments: &mut Vec<SetNumbers>) -> Re
     Ok(())
 }
 
+/// The same of all that is kept.
+fn carry_all(
+    carrying: &mut Carrying,
+    members: &mut Vec<Option<MemberSets>>,
+    segments: &mut Vec<SetNumbers>,
+    heard: &mut HeardEvents,
+) -> Result<(), NoMemory>
+    ensures members { OnOk result ((p : ℕ) →
+        IfBoth (CarriesMember carrying.new) (nth members.old.items p) (nth members.new.items p)) }
+    ensures segments { OnOk result
+        (CarriesSegments carrying.new segments.old.items segments.new.items) }
+    ensures events { OnOk result
+        (CarriesEvents carrying.new (heard_in heard.old) (heard_in heard.new)) }
+    ensures on { OnOk result (CarriesOn carrying.old carrying.new) }
+{
+    carry_members(carrying, members)?;
+    carry_segments(carrying, segments)?;
+    heard.carry(carrying)
+}
+
+/// Fresh sets are in the place of these.
+fn put_sets(sets: &mut SpanSets, fresh: SpanSets)
+    ensures { sets.new ≡ fresh }
+{
+    *sets = fresh;
+}
+
 impl Group {
     /// Carries the sets that are named over into fresh tables, and lets go of all others. After an
     /// error nothing is known of what is kept.
@@ -69,11 +97,14 @@ impl Group {
         let sets = mem::replace(&mut self.sets, empty);
         let mut carrying = Carrying::new(alloc, sets, MEMO)?;
         carrying.keeps();
-        carry_members(&mut carrying, &mut self.members)?;
-        carry_segments(&mut carrying, &mut self.segments)?;
-        self.heard.carry(&mut carrying)?;
-        self.sets = carrying.done();
-        Ok(())
+        let all = carry_all(
+            &mut carrying,
+            &mut self.members,
+            &mut self.segments,
+            &mut self.heard,
+        );
+        put_sets(&mut self.sets, carrying.done());
+        all
     }
 
     /// Lets go of the sets that nobody names, where there are many. After an error nothing is known
