@@ -1,5 +1,5 @@
 -- Events of a group, as their records tell.
-use Rattle.std.proofs.Common.{◌≡◌, ℕ, true, Option, Some, None, is_some, IfSome, option_map, option_and_then, refl, sym, subst, ap, ◌∙◌}
+use Rattle.std.proofs.Common.{◌≡◌, ℕ, true, false, Option, Some, None, is_some, IfSome, option_map, option_and_then, refl, sym, subst, ap, ◌∙◌}
 use Rattle.arn_base.specs.declared.machine.Cpu.{Cpu}
 use Rattle.arn_base.specs.declared.records.Record.{Record}
 use Rattle.parts_model.specs.Image.{read_as_image}
@@ -14,12 +14,13 @@ use Rattle.taint_group.specs.declared.group.Group.{Group}
 use Rattle.taint_group.specs.Does.{DoesStep}
 use Rattle.taint_state.specs.Deeds.{deed_as}
 use Rattle.taint_state.specs.Events.{event_by_member}
+use Rattle.acts_model.specs.Moved.{Inside}
 use Rattle.taint_state.specs.Goes.{GoesIf, TakesEvent}
 use Rattle.taint_group.specs.Groups.{GroupGoes, IsSoundGroup, kept_of}
 use Rattle.taint_state.specs.Kept.{Kept, KeptMember, shown, shown_member}
 use Rattle.taint_state.specs.Lens.{ActsHaveLen, HasLen}
 use Rattle.taint_state.specs.RunsShow.{kept_member}
-use Rattle.taint_state.specs.Shown.{Member}
+use Rattle.taint_state.specs.Shown.{Member, Tracking}
 use Rattle.taint_state.specs.Steps.{event_by, event_of, event_step, holders_of}
 use Rattle.taint_group.specs.Turns.{StepsFrom, holds_of}
 use Rattle.taint_group.proofs.Tables.{at-some, nth-map}
@@ -82,3 +83,34 @@ takes-deed deed pid event count e before x y lens process tells lives len step =
         by_member act told
         (step-of act pid event (event_len e) x y len-of (subst (λ d. DoesStep d pid event (event_len e) x y) same (subst (λ n. DoesStep deed pid event n x y) len step)))
         (nth x.members.items pid) refl lives
+
+-- nothing is changed where an event is none of a live member
+goes-not : (o : Option Inside) (x : Tracking) → o ≡ None → GoesIf o x x
+goes-not o x none = subst (λ i. GoesIf i x x) (sym none) refl
+
+pub takes-nobody : (event : ℕ) (e : Record) (before : Cpu) (x : Group) → process_of e ≡ None → TakesEvent (shown (kept_of x)) event e before (shown (kept_of x))
+takes-nobody event e before x nobody =
+    goes-not (event_step (holders_of (shown (kept_of x))) event e before) (shown (kept_of x)) (ap (option_and_then (event_of (holders_of (shown (kept_of x))) event e before)) nobody)
+
+pub takes-untold : (pid event : ℕ) (e : Record) (before : Cpu) (x : Group) → process_of e ≡ Some pid → option_map deed_as (act_of before e) ≡ None → TakesEvent (shown (kept_of x)) event e before (shown (kept_of x))
+takes-untold pid event e before x process untold =
+    goes-not (event_step (holders_of (shown (kept_of x))) event e before) (shown (kept_of x))
+    (ap (option_and_then (event_of (holders_of (shown (kept_of x))) event e before)) process ∙ by (act_of before e) (holders_of (shown (kept_of x)) pid) untold)
+  where
+    by : (o : Option act.Act) (h : Option Holds) → option_map deed_as o ≡ None → event_by pid event e before h o ≡ None
+    by None None none = refl
+    by None (Some holds) none = refl
+    by (Some act) h none = absurd (cc)
+
+pub takes-dead : (pid event : ℕ) (e : Record) (before : Cpu) (x : Group) → process_of e ≡ Some pid → is_some (nth x.members.items pid) ≡ false → TakesEvent (shown (kept_of x)) event e before (shown (kept_of x))
+takes-dead pid event e before x process dead =
+    goes-not (event_step (holders_of (shown (kept_of x))) event e before) (shown (kept_of x))
+    (ap (option_and_then (event_of (holders_of (shown (kept_of x))) event e before)) process
+    ∙ ap (λ h. event_by pid event e before h (act_of before e)) (holds-not (nth-map (kept_member x.segments.items) x.members.items pid ∙ ap (option_map (kept_member x.segments.items)) (by (nth x.members.items pid) dead))))
+  where
+    by : (o : Option MemberSets) → is_some o ≡ false → o ≡ None
+    by None none = refl
+    by (Some m) none = absurd (cc)
+
+    holds-not : nth (kept_of x).members pid ≡ None → holders_of (shown (kept_of x)) pid ≡ None
+    holds-not none = ap (λ (o : Option KeptMember). option_map (λ (n : Member). n.holds) (option_map (shown_member (kept_of x)) o)) none

@@ -1,5 +1,5 @@
 -- One member of a group changes, and an event is heard.
-use Rattle.std.proofs.Common.{◌≡◌, ◌⊎◌, inl, ℕ, zero, suc, ◌≤◌, ◌<◌, List, [], ◌∷◌, length, slice_index_or, Option, Some, None, IfSome, IsSomeAnd, option_map, refl, sym, subst, ap, ◌∙◌, arith}
+use Rattle.std.proofs.Common.{◌≡◌, ◌⊎◌, inl, ℕ, zero, suc, ◌≤◌, ◌<◌, List, [], ◌∷◌, ◌++◌, length, slice_index_or, slice_set, Option, Some, None, IfSome, IsSomeAnd, Result, Ok, Err, IfOk, option_map, refl, sym, subst, ap, ◌∙◌, arith}
 use Rattle.parts_model.specs.Numbered.{nth}
 use Rattle.taint_spans.specs.Numbered.{Numbered, StandAsBefore}
 use Rattle.acts_model.specs.Moved.{Inside}
@@ -17,7 +17,7 @@ use Rattle.taint_state.specs.Heard.{kept_child}
 use Rattle.taint_state.specs.Kept.{Kept, KeptHeard, KeptMember}
 use Rattle.taint_state.specs.RunsShow.{kept_member}
 use Rattle.taint_group.specs.Tables.{AreKeyed, AreSoundTables, kept_in}
-use Rattle.taint_group.specs.Turns.{ChangesIn, ChangesOne, Ends, FoundsFrom, LivesAs, StartsAs}
+use Rattle.taint_group.specs.Turns.{ChangesEntry, ChangesIn, ChangesOne, Ends, FoundsFrom, LivesAs, StartsAs}
 use Rattle.std.specs.Global.{Box}
 use Rattle.taint_state.specs.declared.heard.ChildStart.{ChildStart}
 use Rattle.taint_group.proofs.Groups.{tables_with}
@@ -32,6 +32,14 @@ nth-past [] k h = refl
 nth-past (x ∷ xs) zero h = absurd (omega arith)
 nth-past (x ∷ xs) (suc k) h = nth-past xs k (omega arith)
 
+-- a further place has no member
+pub nth-more : {X : Type 0} (xs : List (Option X)) (p : ℕ) → nth (xs ++ None ∷ []) p ≡ nth xs p
+nth-more [] zero = refl
+nth-more [] (suc p) = refl
+nth-more (None ∷ xs) zero = refl
+nth-more (Some x ∷ xs) zero = refl
+nth-more (x ∷ xs) (suc p) = nth-more xs p
+
 -- what holds of the entry holds of the member of its number
 pub of-place : {X : Type 0} (P : Option X → Type 0) (xs : List (Option X)) (k : ℕ) (d : Option X) → k < length xs → P (slice_index_or xs k d) → P (nth xs k)
 of-place P xs k d below h = subst P (sym (nth-place xs k d below)) h
@@ -39,6 +47,37 @@ of-place P xs k d below h = subst P (sym (nth-place xs k d below)) h
 -- and what holds where there is none
 pub of-none : {X : Type 0} (P : Option X → Type 0) (xs : List (Option X)) (k : ℕ) → length xs ≤ k → P None → P (nth xs k)
 of-none P xs k past h = subst P (sym (nth-past xs k past)) h
+
+-- the entry of a place is the member of its number
+pub at-place : {X : Type 0} (P : Option X → Type 0) (xs : List (Option X)) (k : ℕ) (d : Option X) → k < length xs → P (nth xs k) → P (slice_index_or xs k d)
+at-place P xs k d below h = subst P (nth-place xs k d below) h
+
+-- a result about the entry is one about the member of its number
+pub ok-place : {A E X : Type 0} (r : Result A E) (P : Option X → A → Type 0) (xs : List (Option X)) (k : ℕ) (d : Option X) → k < length xs → IfOk r (P (slice_index_or xs k d)) → IfOk r (P (nth xs k))
+ok-place r P xs k d below h = of-place (λ o. IfOk r (P o)) xs k d below h
+
+pub ok-there : {A E X : Type 0} (r : Result A E) (P : Option X → A → Type 0) (xs : List (Option X)) (k : ℕ) (d : Option X) → d ≡ slice_index_or xs k d → k < length xs → IfOk r (P d) → IfOk r (P (nth xs k))
+ok-there r P xs k d is below h = subst (λ o. IfOk r (P o)) (is ∙ sym (nth-place xs k d below)) h
+
+-- and one that holds of any where there is none
+pub ok-none : {A E X : Type 0} (r : Result A E) (P : Option X → A → Type 0) → ((a : A) → P None a) → (xs : List (Option X)) (k : ℕ) → length xs ≤ k → IfOk r (P (nth xs k))
+ok-none {A = A} {E = E} r P all xs k past = of-none (λ o. IfOk r (P o)) xs k past (any r)
+  where
+    any : (q : Result A E) → IfOk q (P None)
+    any (Ok a) = all a
+    any (Err e) = tt
+
+-- the entry that changes is that of the number
+pub changes-in : (As : MemberSets → Option MemberSets → Type 0) (pid : ℕ) (members : List (Option MemberSets)) (d after : Option MemberSets) → pid < length members → ChangesEntry As (slice_index_or members pid d) after
+    → ChangesIn As pid members (slice_set members pid after)
+changes-in As pid members d after below entry = of-place (λ o. IfSome o (ChangesOne As pid members (slice_set members pid after))) members pid d below (by (slice_index_or members pid d) entry)
+  where
+    by : (o : Option MemberSets) → ChangesEntry As o after → IfSome o (ChangesOne As pid members (slice_set members pid after))
+    by None entry = tt
+    by (Some old) entry = record { new = after; becomes = entry; members = refl }
+
+pub changes-none : (As : MemberSets → Option MemberSets → Type 0) (pid : ℕ) (members after : List (Option MemberSets)) → length members ≤ pid → ChangesIn As pid members after
+changes-none As pid members after past = of-none (λ o. IfSome o (ChangesOne As pid members after)) members pid past tt
 
 -- sets stand as they stand
 pub stand-still : (sets : Numbered) → StandAsBefore sets sets

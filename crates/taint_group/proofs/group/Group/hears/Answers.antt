@@ -1,6 +1,6 @@
 use Rattle.std.proofs.Common.{◌∙◌, sym}
 use Rattle.taint_group.proofs.Groups.{ok-map}
-use Rattle.taint_group.proofs.Happening.{takes-deed}
+use Rattle.taint_group.proofs.Happening.{takes-dead, takes-deed, takes-nobody, takes-untold}
 use Rattle.taint_group.proofs.group.Group.hears.Goals as goal
 
 pub returns-clause-takes : goal.returns-clause-takes
@@ -14,3 +14,24 @@ returns-clause-sound c =
     ok-map c.step.result (λ step.
     (takes-deed c.in-Some-deed_of.deed c.in-Some.pid c.args.event c.event_len.result c.args.entry.now c.args.before.now c.args.self.now c.step.new.self c.acts_have_len.ensures
     (sym c.process_of.ensures ∙ c.in-Some.is) (sym c.in-Some-deed_of.is ∙ c.deed_of.ensures) (sym c.is_live.ensures ∙ c.if-not-is_live.false) c.event_len.ensures step).1) c.step.ensures
+
+pub returns-in_default-clause-takes : goal.returns-in_default-clause-takes
+returns-in_default-clause-takes c = takes-nobody c.args.event c.args.entry.now c.args.before.now c.args.self.now (sym c.process_of.ensures ∙ c.in_default.is)
+
+pub returns-in_default-clause-sound : goal.returns-in_default-clause-sound
+returns-in_default-clause-sound c = c.requires.sound
+
+pub returns-in_default-deed_of-clause-takes : goal.returns-in_default-deed_of-clause-takes
+returns-in_default-deed_of-clause-takes c = takes-untold c.in-Some.pid c.args.event c.args.entry.now c.args.before.now c.args.self.now (sym c.process_of.ensures ∙ c.in-Some.is) (sym c.deed_of.ensures ∙ c.in_default-deed_of.is)
+
+pub returns-in_default-deed_of-clause-sound : goal.returns-in_default-deed_of-clause-sound
+returns-in_default-deed_of-clause-sound c = c.requires.sound
+
+pub returns-then-not-is_live-clause-takes : goal.returns-then-not-is_live-clause-takes
+returns-then-not-is_live-clause-takes c = takes-dead c.in-Some.pid c.args.event c.args.entry.now c.args.before.now c.args.self.now (sym c.process_of.ensures ∙ c.in-Some.is) (sym c.is_live.ensures ∙ c.if-not-is_live.true)
+
+pub returns-then-not-is_live-clause-sound : goal.returns-then-not-is_live-clause-sound
+returns-then-not-is_live-clause-sound c = c.requires.sound
+
+pub step-requires : goal.step-requires
+step-requires c = record { sound = c.requires.sound }
