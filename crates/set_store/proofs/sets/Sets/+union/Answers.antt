@@ -1,4 +1,4 @@
-use Rattle.std.proofs.Common.{◌≡◌, ℕ, ◌++◌, List, Result, Ok, Err, IfOk, sym, subst, arith}
+use Rattle.std.proofs.Common.{◌≡◌, inl, inr, ℕ, ◌++◌, List, Result, Ok, Err, IfOk, sym, subst, arith}
 use Rattle.std.proofs.lemmas.Result.{IfOk-weaker}
 use Rattle.arn_base.specs.declared.errors.NoMemory.{NoMemory}
 use Rattle.set_store.specs.declared.item.Item.{Item}
@@ -7,6 +7,69 @@ use Rattle.set_store.specs.Tries.{items_of}
 use Rattle.set_store.proofs.Growth.{right-made, stand-same, stand-twice, union-ordered}
 use Rattle.set_store.proofs.Halves.{left-smaller, right-smaller, united-in}
 use Rattle.set_store.proofs.sets.Sets.+union.Goals as goal
+
+pub parted-parting-bit-requires-clause-some : goal.parted-parting-bit-requires-clause-some
+parted-parting-bit-requires-clause-some t c = c.requires.some
+
+pub parted-parting-bit-requires-clause-other : goal.parted-parting-bit-requires-clause-other
+parted-parting-bit-requires-clause-other t c = c.requires.other
+
+pub parted-parting-bit-requires-clause-x : goal.parted-parting-bit-requires-clause-x
+parted-parting-bit-requires-clause-x t c = c.requires.x
+
+pub parted-parting-bit-requires-clause-y : goal.parted-parting-bit-requires-clause-y
+parted-parting-bit-requires-clause-y t c = c.requires.y
+
+pub parted-parting-bit-requires-clause-apart : goal.parted-parting-bit-requires-clause-apart
+parted-parting-bit-requires-clause-apart t c = c.requires.apart
+
+pub parted-halves-a-requires-clause-there : goal.parted-halves-a-requires-clause-there
+parted-halves-a-requires-clause-there t c = c.requires.first
+
+pub parted-halves-a-requires-clause-some : goal.parted-halves-a-requires-clause-some
+parted-halves-a-requires-clause-some t c = c.requires.some
+
+pub parted-halves-a-requires-clause-node : goal.parted-halves-a-requires-clause-node
+parted-halves-a-requires-clause-node t c = c.requires.x
+
+pub parted-halves-a-requires-clause-bit : goal.parted-halves-a-requires-clause-bit
+parted-halves-a-requires-clause-bit t c = c.parting-bit.ensures.below
+
+pub parted-halves-a-requires-clause-alike : goal.parted-halves-a-requires-clause-alike
+parted-halves-a-requires-clause-alike t c = λ item other one two. c.parting-bit.ensures.parted.alike item other (inl one) (inl two)
+
+pub parted-halves-b-requires-clause-there : goal.parted-halves-b-requires-clause-there
+parted-halves-b-requires-clause-there t c = c.requires.second
+
+pub parted-halves-b-requires-clause-some : goal.parted-halves-b-requires-clause-some
+parted-halves-b-requires-clause-some t c = c.requires.other
+
+pub parted-halves-b-requires-clause-node : goal.parted-halves-b-requires-clause-node
+parted-halves-b-requires-clause-node t c = c.requires.y
+
+pub parted-halves-b-requires-clause-bit : goal.parted-halves-b-requires-clause-bit
+parted-halves-b-requires-clause-bit t c = c.parting-bit.ensures.below
+
+pub parted-halves-b-requires-clause-alike : goal.parted-halves-b-requires-clause-alike
+parted-halves-b-requires-clause-alike t c = λ item other one two. c.parting-bit.ensures.parted.alike item other (inr one) (inr two)
+
+pub parted-forked-requires-clause-bit : goal.parted-forked-requires-clause-bit
+parted-forked-requires-clause-bit t c = c.parting-bit.ensures.below
+
+pub parted-forked-requires-clause-right : goal.parted-forked-requires-clause-right
+parted-forked-requires-clause-right t c = c.in_ok-right.ensures.set
+
+pub made-joined-requires-clause-some : goal.made-joined-requires-clause-some
+made-joined-requires-clause-some t c = c.requires.some
+
+pub made-joined-requires-clause-other : goal.made-joined-requires-clause-other
+made-joined-requires-clause-other t c = c.requires.other
+
+pub made-joined-requires-clause-x : goal.made-joined-requires-clause-x
+made-joined-requires-clause-x t c = c.node-x.ensures.node
+
+pub made-joined-requires-clause-y : goal.made-joined-requires-clause-y
+made-joined-requires-clause-y t c = c.node-y.ensures.node
 
 pub parted-union-requires : goal.parted-union-requires
 parted-union-requires t c =
