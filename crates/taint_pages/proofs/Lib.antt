@@ -1,4 +1,5 @@
 mod Carrying
 mod Flat
 mod Marks
+mod Over
 mod Zeros
