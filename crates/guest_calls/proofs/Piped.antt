@@ -3,7 +3,8 @@ use Rattle.std.proofs.Common.{◌≡◌, ◌≢◌, ℕ, zero, suc, ◌+◌, ◌
 use Rattle.std.specs.Prelude.{IsTrue, not, nat_lt, option_map, slice_set}
 use Rattle.std.proofs.lemmas.Bool.{ltb-true}
 use Rattle.std.proofs.lemmas.List.{length-map, length-take}
-use Rattle.std.proofs.lemmas.Option.{same_Some}
+use Rattle.std.proofs.lemmas.Option.{none-some, same_Some}
+use Rattle.std.proofs.Math.Nat.{suc-ne-zero}
 use Rattle.arn_base.specs.declared.records.Extra.TheVariants as extra
 use Rattle.arn_base.specs.declared.records.Give.{Give}
 use Rattle.parts_model.specs.declared.limits.TheConstants.{MOST_PIPE_BYTES}
@@ -41,10 +42,10 @@ module _ (m : Machine) (at most pipe : ℕ) (some : 0 < most) where
   queue-none : (n : ℕ) (p : Pipe) (queue : List TaggedByte) → 0 < n → (nat_lt 0 (length queue) || not p.has_writer) ≡ true → length (take n queue) ≡ 0 → read_queue m pipe at p (take n queue) ≡ returns 0 m.kernel
   queue-none zero p queue some ready none = absurd (omega arith)
   queue-none (suc n) p [] some ready none = empty-ready m p.has_writer ready
-  queue-none (suc n) p (b ∷ queue) some ready none = cc
+  queue-none (suc n) p (b ∷ queue) some ready none = absurd (suc-ne-zero (length (take n queue)) none)
 
   none-by : (o : Option Pipe) (give : Give) → option_map can_take o ≡ Some true → Some give ≡ option_map (λ p. given (front p.channel most)) o → length give.bytes ≡ 0 → read_pipe m pipe at most o ≡ returns 0 m.kernel
-  none-by None give ready gives none = cc
+  none-by None give ready gives none = absurd (none-some give (sym gives))
   none-by (Some p) give ready gives none =
       queue-none most p p.channel.queue some (same_Some (can_take p) true ready)
       (sym (length-map (front p.channel most) (λ h. h.value)) ∙ (ap (λ (g : Give). length g.bytes) (sym (same_Some give (given (front p.channel most)) gives)) ∙ none))
@@ -69,7 +70,7 @@ taken-nothing p most none =
     ∙ ap (λ (t : ℕ). record p { channel = record { taken = t; queue = p.channel.queue } }) (omega arith)
 
 nothing-by : (pipes : Pipes) (n most : ℕ) (give : Give) (o : Option Pipe) → nth pipes n ≡ o → Some give ≡ option_map (λ p. given (front p.channel most)) o → length give.bytes ≡ 0 → with_change pipes n (λ p. with_taken p most) ≡ pipes
-nothing-by pipes n most give None is gives none = cc
+nothing-by pipes n most give None is gives none = absurd (none-some give (sym gives))
 nothing-by pipes n most give (Some p) is gives none =
     changes-same pipes n p (λ q. with_taken q most) (λ q. q) is
     (taken-nothing p most (sym (length-map (front p.channel most) (λ h. h.value)) ∙ (ap (λ (g : Give). length g.bytes) (sym (same_Some give (given (front p.channel most)) gives)) ∙ none)))
@@ -103,7 +104,7 @@ queue-some m pipe at p (b ∷ held) some = refl
 
 module _ (k : Inside) (pid at most count pipe : ℕ) (give : Give) (new : Guests) (c : Channels) where
   drained-by : (o : Option Pipe) → nth k.channels.pipes pipe ≡ o → Some give ≡ option_map (λ p. given (front p.channel most)) o → count ≡ length give.bytes → count ≢ 0 → c ≡ record k.channels { pipes = with_change k.channels.pipes pipe (λ p. with_taken p most) } → Follows k.bodies (done pid k.events (Receives at give.bytes count)) new → KeepsWatches k.bodies new → OfProcess (state_of k) pid (λ m v. Carried (draining m at most pipe) (record { result = count; extra = extra.Give give }) m pid v (state_of (record k { bodies = new; channels = c; events = k.events + 1 })))
-  drained-by None is gives counts some changed follows keeps = cc
+  drained-by None is gives counts some changed follows keeps = absurd (none-some give (sym gives))
   drained-by (Some p) is gives counts some changed follows keeps =
       let held : List TaggedByte = front p.channel most in
       let told : give ≡ given held = same_Some give (given held) gives in
@@ -189,7 +190,7 @@ poured_into pipe bytes s = record s.kernel { pipes = with_change s.kernel.pipes 
 
 module _ (old mid new : State) (pid at taken pipe : ℕ) (bytes : List ℕ) where
   poured-by : (o : Option Pipe) → nth old.kernel.pipes pipe ≡ o → option_map can_put o ≡ Some true → (holds (λ p. IsTrue (not p.has_reader)) o → ⊥) → Some taken ≡ option_map (λ p. min (length bytes) (room p)) o → mid ≡ record old { kernel = poured_into pipe bytes old } → ((act : Act) → IsResult act taken → Acted pid act mid.kernel mid new) → OfProcess old pid (λ m v. Carried (pouring m at bytes pipe) (record { result = taken; extra = extra.Nothing }) m pid v new)
-  poured-by None is ready reads counts changed acts = cc
+  poured-by None is ready reads counts changed acts = absurd (none-some taken (sym counts))
   poured-by (Some p) is ready reads counts changed acts =
       let first : List ℕ = take (room p) bytes in
       let long : length first ≡ taken = omega (arith, length-take (room p) bytes, same_Some taken (min (length bytes) (room p)) counts) in
