@@ -9,7 +9,8 @@ use Rattle.parts_model.specs.Processes.{Process, Processes, process, with_change
 use Rattle.arn_model.specs.Kernel.{Opened}
 use Rattle.guest_bodies.specs.Follows.{KeepsWatches}
 use Rattle.guest_bodies.specs.Shown.{Guests}
-use Rattle.guest_calls.specs.Kept.{IsFull, IsKept, IsPast, IsSound}
+use Rattle.guest_calls.specs.Kept.{IsFull, IsKept, IsPast, IsSound, state_of}
+use Rattle.guest_calls.specs.State.{State}
 use Rattle.guest_calls.specs.declared.kernel.Kernel.TheInside.{Inside}
 use Rattle.guest_calls.proofs.Ends.{if_live, with_process-other}
 use Rattle.guest_calls.proofs.Numbers.{nth-set_own}
@@ -77,6 +78,10 @@ resources-sound k files ds booted kept =
       closed = λ early. absurd (true≢false (sym booted ∙ early));
       past = kept.past;
     }
+
+-- the same, where a process lives
+pub live-sound : {files : Files} {ds : List (Option Opened)} (k : Inside) (s : State) (pid : ℕ) → state_of k ≡ s → IsKept k → is_some (nth s.guests pid) ≡ true → IsSound k.bodies k.procs files ds k.booted k.events
+live-sound {files} {ds} k s pid is kept live = resources-sound k files ds (booted-live k pid kept (subst (λ (x : State). is_some (nth x.guests pid) ≡ true) (sym is) live)) kept
 
 -- a descriptor stands for something, or for nothing any more
 pub descriptor-sound : (k : Inside) (pid number : ℕ) (found : Option ℕ) (files : Files) (ds : List (Option Opened)) → k.booted ≡ true → IsKept k → IsSound k.bodies (with_change k.procs pid (with_descriptor number found)) files ds k.booted k.events

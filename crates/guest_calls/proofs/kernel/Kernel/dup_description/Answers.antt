@@ -9,6 +9,7 @@ use Rattle.guest_calls.specs.State.{State, OfProcess}
 use Rattle.guest_calls.proofs.Carries.{acted-across, acted-after, carried-by}
 use Rattle.guest_calls.proofs.Opening.{dup-is}
 use Rattle.guest_calls.proofs.Stands.{machine_with}
+use Rattle.guest_calls.proofs.Room.{live-sound}
 use Rattle.guest_calls.proofs.kernel.Kernel.dup_description.Goals as goal
 
 pub returns-clause-carried : goal.returns-clause-carried
@@ -23,3 +24,9 @@ returns-clause-carried c =
     (λ b v sees. dup-is (machine_with b old) c.args.pid c.args.number answer mid.kernel
     (ap (λ (s : State). has_no_room s.kernel c.args.pid) c.self.view_is ∙ (sym c.has_no_room.ensures ∙ c.if-has_no_room.false))
     (c.in_ok-hold_one.ensures.held.kernel old.kernel) c.place-descriptor.ensures.number))
+
+pub invariant_of-self : goal.invariant_of-self
+invariant_of-self c = live-sound c.self.inside c.args.self.now c.args.pid c.self.view_is c.self.invariant c.requires.live
+
+pub invariant_of-self-2 : goal.invariant_of-self-2
+invariant_of-self-2 c = live-sound c.self.inside c.args.self.now c.args.pid c.self.view_is c.self.invariant c.requires.live

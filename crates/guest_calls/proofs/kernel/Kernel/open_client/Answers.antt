@@ -5,6 +5,7 @@ use Rattle.guest_calls.specs.Channels.{with_client}
 use Rattle.guest_calls.specs.Kept.{state_of}
 use Rattle.guest_calls.specs.State.{State}
 use Rattle.guest_calls.proofs.NewChannels.{client-state, same-state, taken-back}
+use Rattle.guest_calls.proofs.Room.{live-sound}
 use Rattle.guest_calls.proofs.kernel.Kernel.open_client.Goals as goal
 
 pub returns-in-Ok-clause-opened : goal.returns-in-Ok-clause-opened
@@ -17,3 +18,12 @@ returns-in-Err-clause-err c =
     let what = Connection c.in_ok-conn.conn.to_client c.in_ok-conn.conn.to_server in
     same-state c.self.inside c.remove_last.new.self c.connect.new.self (c.remove_last.ensures ∙ taken-back c.self.inside.resources c.open_channel.new.self what c.in_ok-number.ensures.opened) c.in-Err.ensures.err
     ∙ c.self.view_is
+
+pub invariant_of-self : goal.invariant_of-self
+invariant_of-self c = live-sound c.self.inside c.args.self.now c.args.pid c.self.view_is c.self.invariant c.requires.live
+
+pub invariant_of-self-in-Ok : goal.invariant_of-self-in-Ok
+invariant_of-self-in-Ok c = live-sound c.self.inside c.args.self.now c.args.pid c.self.view_is c.self.invariant c.requires.live
+
+pub invariant_of-self-in-Err : goal.invariant_of-self-in-Err
+invariant_of-self-in-Err c = live-sound c.self.inside c.args.self.now c.args.pid c.self.view_is c.self.invariant c.requires.live

@@ -9,6 +9,7 @@ use Rattle.guest_calls.specs.Kept.{state_of}
 use Rattle.guest_calls.specs.State.{State, OfProcess}
 use Rattle.guest_calls.proofs.Asks.{here-absent, opened, replied}
 use Rattle.guest_calls.proofs.NewChannels.{opened-state, same-state, taken-back}
+use Rattle.guest_calls.proofs.Room.{live-sound}
 use Rattle.guest_calls.proofs.kernel.Kernel.open_device.Goals as goal
 
 pub returns-then-here-clause-replied : goal.returns-then-here-clause-replied
@@ -29,3 +30,12 @@ returns-clause-replied g c =
     replied g.A.Answers.answers c.args.answers.now c.here.new.self c.args.pid c.args.self.now c.fails.new.self (Here c.args.device) IsAbsent c.fails.result (λ m. absent m.kernel) (λ m v. here-absent m c.args.pid v c.args.device)
     (λ v sees. c.if-here.ensures)
     (subst (λ (s : State). OfProcess s c.args.pid (λ m v. Carried (Does (absent m.kernel)) c.fails.result m c.args.pid v c.fails.new.self)) still c.fails.ensures.carried)
+
+pub invariant_of-self : goal.invariant_of-self
+invariant_of-self g c = live-sound c.self.inside c.args.self.now c.args.pid c.self.view_is c.self.invariant c.requires.live
+
+pub invariant_of-self-then-here : goal.invariant_of-self-then-here
+invariant_of-self-then-here g c = live-sound c.self.inside c.args.self.now c.args.pid c.self.view_is c.self.invariant c.requires.live
+
+pub invariant_of-self-2 : goal.invariant_of-self-2
+invariant_of-self-2 g c = live-sound c.self.inside c.args.self.now c.args.pid c.self.view_is c.self.invariant c.requires.live

@@ -10,6 +10,7 @@ use Rattle.guest_calls.specs.State.{State, OfProcess}
 use Rattle.guest_calls.proofs.Carries.{acted-across, carried-by}
 use Rattle.guest_calls.proofs.Opening.{found-is}
 use Rattle.guest_calls.proofs.Stands.{machine_with}
+use Rattle.guest_calls.proofs.Room.{live-sound}
 use Rattle.guest_calls.proofs.kernel.Kernel.open_found.Goals as goal
 
 pub returns-clause-carried : goal.returns-clause-carried
@@ -24,3 +25,9 @@ returns-clause-carried c =
     (λ b v sees. found-is (machine_with b old) c.args.pid c.in-Some.file c.in_ok-opened.opened.description c.opened_as.result.result path c.opened_as.result.extra mid.kernel found
     (ap (λ (s : State). has_no_room s.kernel c.args.pid) c.self.view_is ∙ (sym c.has_no_room.ensures ∙ c.if-has_no_room.false))
     (c.in_ok-opened.ensures.opened.kernel old.kernel) c.in_ok-opened.ensures.number c.opened_as.ensures.result (c.opened_as.ensures.extra ∙ ap (λ (i : ℕ). extra.Name i path) c.in_ok-opened.ensures.file)))
+
+pub invariant_of-self : goal.invariant_of-self
+invariant_of-self c = live-sound c.self.inside c.args.self.now c.args.pid c.self.view_is c.self.invariant c.requires.live
+
+pub invariant_of-self-2 : goal.invariant_of-self-2
+invariant_of-self-2 c = live-sound c.self.inside c.args.self.now c.args.pid c.self.view_is c.self.invariant c.requires.live

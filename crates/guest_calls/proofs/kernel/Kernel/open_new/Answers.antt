@@ -10,6 +10,7 @@ use Rattle.guest_calls.specs.State.{State, OfProcess}
 use Rattle.guest_calls.proofs.Carries.{acted-across, carried-by}
 use Rattle.guest_calls.proofs.Opening.{new-is}
 use Rattle.guest_calls.proofs.Stands.{machine_with}
+use Rattle.guest_calls.proofs.Room.{live-sound}
 use Rattle.guest_calls.proofs.kernel.Kernel.open_new.Goals as goal
 
 pub returns-in-Ok-clause-carried : goal.returns-in-Ok-clause-carried
@@ -27,3 +28,12 @@ returns-in-Ok-clause-carried c =
     c.in-Ok.ensures.room
     (subst (λ (p : List ℕ). with_new (File (next_file old.kernel.files) 0) (record old.kernel { files = held (made old.kernel.files p []) (next_file old.kernel.files) }) ≡ mid.kernel) c.as_slice-2.ensures (c.in-Ok.ensures.opened.kernel old.kernel))
     c.in-Ok.ensures.file c.in-Ok.ensures.number c.opened_as.ensures.result c.opened_as.ensures.extra))
+
+pub invariant_of-self : goal.invariant_of-self
+invariant_of-self c = live-sound c.self.inside c.args.self.now c.args.pid c.self.view_is c.self.invariant c.requires.live
+
+pub invariant_of-self-in-Err-TooMany : goal.invariant_of-self-in-Err-TooMany
+invariant_of-self-in-Err-TooMany c = live-sound c.self.inside c.args.self.now c.args.pid c.self.view_is c.self.invariant c.requires.live
+
+pub invariant_of-self-in-Err : goal.invariant_of-self-in-Err
+invariant_of-self-in-Err c = live-sound c.self.inside c.args.self.now c.args.pid c.self.view_is c.self.invariant c.requires.live

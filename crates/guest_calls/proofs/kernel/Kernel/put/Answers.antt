@@ -12,6 +12,7 @@ use Rattle.guest_requests.specs.Transfers.{writing_at}
 use Rattle.guest_calls.proofs.Carries.{carried-same}
 use Rattle.guest_calls.proofs.Filed.{full-write, put-carried, put_at}
 use Rattle.guest_calls.proofs.Stands.{machine_with}
+use Rattle.guest_calls.proofs.Room.{live-sound}
 use Rattle.guest_calls.proofs.kernel.Kernel.put.Goals as goal
 
 pub returns-then-room-eq0-clause-carried : goal.returns-then-room-eq0-clause-carried
@@ -34,3 +35,9 @@ returns-clause-carried c =
     (c.min-fits.ensures ∙ ap (min c.args.count) (omega (arith, c.room-room.ensures)))
     (ap (λ (k : Kernel). record old { kernel = k }) (sym (changes.kernel old.kernel)) ∙ ap (λ (s : State). record s { kernel = put_at c.args.place bytes s }) c.self.view_is)
     c.returns.ensures
+
+pub invariant_of-self : goal.invariant_of-self
+invariant_of-self c = live-sound c.self.inside c.args.self.now c.args.pid c.self.view_is c.self.invariant c.requires.live
+
+pub invariant_of-self-2 : goal.invariant_of-self-2
+invariant_of-self-2 c = live-sound c.self.inside c.args.self.now c.args.pid c.self.view_is c.self.invariant c.requires.live

@@ -9,6 +9,7 @@ use Rattle.guest_calls.specs.State.{State, OfProcess}
 use Rattle.guest_calls.proofs.Carries.{acted-across, carried-by}
 use Rattle.guest_calls.proofs.Opening.{seek-is}
 use Rattle.guest_calls.proofs.Stands.{machine_with}
+use Rattle.guest_calls.proofs.Room.{live-sound}
 use Rattle.guest_calls.proofs.kernel.Kernel.seek_file.Goals as goal
 
 pub returns-clause-carried : goal.returns-clause-carried
@@ -19,3 +20,6 @@ returns-clause-carried c place =
     (carried-by c.args.pid c.args.position extra.Nothing mid.kernel old c.returns.new.self (λ m v. seek_in m c.args.number c.args.position (File c.args.file place))
     (acted-across c.args.pid (Returns c.args.position) mid.kernel mid.kernel old mid c.returns.new.self refl (c.returns.ensures (Returns c.args.position) refl))
     (λ b v sees. seek-is (machine_with b old) c.args.number c.args.file place c.args.position c.file_length.result mid.kernel c.file_length.ensures.length c.if-position-file_length.false (c.move_to.ensures.kernel old.kernel)))
+
+pub invariant_of-self : goal.invariant_of-self
+invariant_of-self c = live-sound c.self.inside c.args.self.now c.args.pid c.self.view_is c.self.invariant c.requires.live

@@ -11,6 +11,7 @@ use Rattle.guest_calls.specs.State.{State, OfProcess}
 use Rattle.guest_calls.proofs.Carries.{acted-after, carried-by}
 use Rattle.guest_calls.proofs.Opening.{unlink-is}
 use Rattle.guest_calls.proofs.Stands.{machine_with}
+use Rattle.guest_calls.proofs.Room.{live-sound}
 use Rattle.guest_calls.proofs.kernel.Kernel.unlink_path.Goals as goal
 
 pub returns-in-Some-clause-carried : goal.returns-in-Some-clause-carried
@@ -26,3 +27,9 @@ returns-in-Some-clause-carried c =
     ∙ ap (λ (p : List ℕ). state_of (record c.self.inside { resources = record c.self.inside.resources { files = unnamed c.self.inside.resources.files p c.in-Some.file } })) c.as_slice.ensures)
     (c.returns.ensures (Returns 0) refl))
     (λ b v sees. unlink-is (machine_with b old) c.in-Some.file path (sym c.in-Some.is ∙ (c.unlink.ensures.found ∙ ap (find_file old.kernel.files) c.as_slice.ensures))))
+
+pub invariant_of-self : goal.invariant_of-self
+invariant_of-self c = live-sound c.self.inside c.args.self.now c.args.pid c.self.view_is c.self.invariant c.requires.live
+
+pub invariant_of-self-in-Some : goal.invariant_of-self-in-Some
+invariant_of-self-in-Some c = live-sound c.self.inside c.args.self.now c.args.pid c.self.view_is c.self.invariant c.requires.live
