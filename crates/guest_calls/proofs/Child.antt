@@ -1,6 +1,6 @@
 -- A process that has made a child.
 use Rattle.std.proofs.Common.{◌≡◌, ◌≢◌, ℕ, zero, suc, ◌+◌, ◌==◌, Bool, true, false, List, [], ◌∷◌, ◌++◌, length, Option, None, Some, IfSome, is_some, option_map, refl, sym, ap, ◌∙◌, arith, subst, add-one, true≢false, length-append}
-use Rattle.std.specs.Prelude.{unwrap_or}
+use Rattle.std.specs.Prelude.{IsNone, unwrap_or}
 use Rattle.std.proofs.lemmas.Bool.{eqb-true, eqb-false, lt-ltb}
 use Rattle.parts_model.specs.Files.{Files}
 use Rattle.parts_model.specs.Numbered.{nth}
@@ -52,6 +52,14 @@ sees-by : (guests : Guests) (pid : ℕ) (o : Option Shown) → nth guests pid �
 sees-by guests pid None is live = absurd (true≢false (sym live))
 sees-by guests pid (Some s) is live = record { view = s.view; sees = ap (option_map (λ (x : Shown). x.view)) is }
 
+none-by : {A : Type 0} (o : Option A) → (is_some o ≡ true → ⊥) → IsNone o
+none-by None isnt = refl
+none-by (Some x) isnt = absurd (isnt refl)
+
+-- nobody has the number of the next process
+pub no-child : (k : Inside) (child : ℕ) → IsKept k → child ≡ next_process k.procs → IsNone (nth k.bodies child)
+no-child k child kept next = none-by (nth k.bodies child) (λ (live : is_some (nth k.bodies child) ≡ true). omega (arith, next, (live-numbered k child kept live).1))
+
 module _ (k : Inside) (pid : ℕ) (kept : IsKept k) (live : is_some (nth k.bodies pid) ≡ true) where
   there : is_some (process k.procs pid) ≡ true
   there = live-there k.procs pid (sym (kept.alive pid) ∙ live)
@@ -61,6 +69,18 @@ module _ (k : Inside) (pid : ℕ) (kept : IsKept k) (live : is_some (nth k.bodie
 
   parent-same : process (table.forked k.procs pid) pid ≡ process k.procs pid
   parent-same = process-before k.procs (option_map (child_of pid) (process k.procs pid)) pid isnt-child
+
+  -- the parent is there
+  pub parent-there : is_some (process k.procs pid) ≡ true
+  parent-there = there
+
+  -- the child lives, if the table is that with one more process
+  pub child-lives : (procs : Processes) → procs ≡ table.forked k.procs pid → is_some (live_process procs (length procs)) ≡ true
+  child-lives procs is =
+      let child : Option Process = option_map (child_of pid) (process k.procs pid) in
+      subst (λ (x : Processes). is_some (live_process x (length x)) ≡ true) (sym is)
+      (ap (λ (n : ℕ). is_some (live_process (table.forked k.procs pid) n)) (length-append k.procs (child ∷ []))
+      ∙ (ap (λ (x : Option Process). is_some (if_live x)) (process-next k.procs child) ∙ (child-live pid (process k.procs pid) ∙ there)))
 
   -- what the parent has open
   pub still-open : (procs : Processes) → procs ≡ table.forked k.procs pid → unwrap_or (option_map (λ (p : Process). p.descriptors) (process procs pid)) [] ≡ descriptors_of (state_of k).kernel pid

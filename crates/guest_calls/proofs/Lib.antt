@@ -5,6 +5,7 @@ pub mod Closing
 pub mod Ends
 pub mod Numbers
 pub mod Room
+pub mod Returned
 pub mod Carries
 pub mod Many
 pub mod NewChannels

@@ -1,4 +1,4 @@
-use Rattle.std.proofs.Common.{◌≡◌, ◌∙◌, ◌+◌, ℕ, List, length, sym, ap, subst}
+use Rattle.std.proofs.Common.{◌≡◌, ◌∙◌, ◌+◌, ℕ, List, length, sym, ap, subst, refl}
 use Rattle.arn_base.specs.declared.records.Extra.TheVariants as extra
 use Rattle.parts_model.specs.Pipes.{Pipes}
 use Rattle.acts_model.specs.Acts.{Receives, done}
@@ -14,6 +14,7 @@ use Rattle.guest_calls.proofs.Past.{past-acted}
 use Rattle.guest_calls.proofs.Pieces.{body-sound}
 use Rattle.guest_calls.proofs.Piped.{drained-carried, draining-none, nothing-taken}
 use Rattle.guest_calls.proofs.Stands.{machine_with}
+use Rattle.guest_calls.proofs.Returned.{has-room, lives, no-ok, nothing-short, on-err}
 use Rattle.guest_calls.proofs.kernel.Kernel.drain.Goals as goal
 
 pub returns-then-count-eq0-clause-carried : goal.returns-then-count-eq0-clause-carried
@@ -40,3 +41,30 @@ pub invariant_of-self-2 : goal.invariant_of-self-2
 invariant_of-self-2 c =
     body-sound c.self.inside c.receives.new.self (c.self.inside.events + 1) c.self.invariant c.receives.ensures.watches
     (past-acted c.others_stay_unheld.ensures c.self.inside.bodies c.self.inside.events c.self.invariant.past c.receives.new.self c.args.pid (Receives c.args.at c.as_slice.result.now c.len-count.result) (c.receives.ensures.follows c.self.inside.events))
+
+pub returns-in_err-spare-clause-carried : goal.returns-in_err-spare-clause-carried
+returns-in_err-spare-clause-carried c = no-ok _ c.from_residual.result c.from_residual.ensures.0
+
+pub returns-in_err-spare-clause-short : goal.returns-in_err-spare-clause-short
+returns-in_err-spare-clause-short c = no-ok _ c.from_residual.result c.from_residual.ensures.0
+
+pub returns-in_err-spare-clause-err : goal.returns-in_err-spare-clause-err
+returns-in_err-spare-clause-err c = on-err c.from_residual.result refl
+
+pub returns-in_err-give-clause-carried : goal.returns-in_err-give-clause-carried
+returns-in_err-give-clause-carried c = no-ok _ c.from_residual-in_err-give.result c.from_residual-in_err-give.ensures.0
+
+pub returns-in_err-give-clause-short : goal.returns-in_err-give-clause-short
+returns-in_err-give-clause-short c = no-ok _ c.from_residual-in_err-give.result c.from_residual-in_err-give.ensures.0
+
+pub answers-requires-clause-live : goal.answers-requires-clause-live
+answers-requires-clause-live c = lives c.self.inside c.args.self.now c.args.pid c.self.view_is c.requires.live
+
+pub answers-requires-clause-room : goal.answers-requires-clause-room
+answers-requires-clause-room c = has-room c.self.inside c.args.self.now c.self.view_is c.requires.room
+
+pub returns-then-count-eq0-clause-short : goal.returns-then-count-eq0-clause-short
+returns-then-count-eq0-clause-short c = nothing-short c.answers.ensures.nothing
+
+pub receives-requires-clause-live : goal.receives-requires-clause-live
+receives-requires-clause-live c = lives c.self.inside c.args.self.now c.args.pid c.self.view_is c.requires.live

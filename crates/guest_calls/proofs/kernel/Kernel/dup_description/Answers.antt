@@ -10,6 +10,7 @@ use Rattle.guest_calls.proofs.Carries.{acted-across, acted-after, carried-by}
 use Rattle.guest_calls.proofs.Opening.{dup-is}
 use Rattle.guest_calls.proofs.Stands.{machine_with}
 use Rattle.guest_calls.proofs.Room.{live-sound}
+use Rattle.guest_calls.proofs.Returned.{lives, no-ok}
 use Rattle.guest_calls.proofs.kernel.Kernel.dup_description.Goals as goal
 
 pub returns-clause-carried : goal.returns-clause-carried
@@ -30,3 +31,12 @@ invariant_of-self c = live-sound c.self.inside c.args.self.now c.args.pid c.self
 
 pub invariant_of-self-2 : goal.invariant_of-self-2
 invariant_of-self-2 c = live-sound c.self.inside c.args.self.now c.args.pid c.self.view_is c.self.invariant c.requires.live
+
+pub returns-in_err-hold_one-clause-carried : goal.returns-in_err-hold_one-clause-carried
+returns-in_err-hold_one-clause-carried c = no-ok _ c.from_residual.result c.from_residual.ensures.0
+
+pub returns-in_err-hold_one-clause-nothing : goal.returns-in_err-hold_one-clause-nothing
+returns-in_err-hold_one-clause-nothing c = no-ok _ c.from_residual.result c.from_residual.ensures.0
+
+pub place-descriptor-requires-clause-live : goal.place-descriptor-requires-clause-live
+place-descriptor-requires-clause-live c = lives c.self.inside c.args.self.now c.args.pid c.self.view_is c.requires.live

@@ -1,4 +1,4 @@
-use Rattle.std.proofs.Common.{◌≡◌, ◌∙◌, ℕ, List, Some, option_map, true, false, ap, sym, subst, arith}
+use Rattle.std.proofs.Common.{◌≡◌, ◌∙◌, ℕ, List, Some, option_map, true, false, ap, sym, subst, arith, refl}
 use Rattle.parts_model.specs.Files.{file_bytes, find_file}
 use Rattle.parts_model.specs.Image.{is_image}
 use Rattle.parts_model.specs.Signals.{no_handlers}
@@ -11,6 +11,7 @@ use Rattle.guest_calls.specs.Acted.{Acted}
 use Rattle.guest_calls.specs.State.{State}
 use Rattle.guest_calls.proofs.Carries.{carried-same}
 use Rattle.guest_calls.proofs.Restarts.{exec-carried, not-image}
+use Rattle.guest_calls.proofs.Returned.{no-ok, nothing-short, on-err}
 use Rattle.guest_calls.proofs.kernel.Kernel.exec_path.Goals as goal
 
 pub returns-then-not-is_image-clause-carried : goal.returns-then-not-is_image-clause-carried
@@ -30,3 +31,24 @@ returns-clause-carried c =
     let image : is_image c.in_ok-give.give.bytes ≡ true = ap is_image (sym c.as_slice.ensures) ∙ (sym c.is_image.ensures ∙ tested) in
     exec-carried c.args.self.now c.args.pid c.in-Some.file c.args.path.now c.in_ok-give.give found read c.restart.new.self c.args.block c.args.block_len image c.requires.block c.requires.block_len
     (subst (λ (x : List ℕ). Acted c.args.pid (Starts x c.args.block c.args.block_len) (with_handling c.args.pid (λ h. record h { handlers = no_handlers }) c.args.self.now.kernel) c.args.self.now c.restart.new.self) c.as_slice-2.ensures c.in_ok-restart.ensures.started)
+
+pub returns-in-None-clause-short : goal.returns-in-None-clause-short
+returns-in-None-clause-short c = nothing-short c.answers.ensures.nothing
+
+pub returns-in_err-give-clause-carried : goal.returns-in_err-give-clause-carried
+returns-in_err-give-clause-carried c = no-ok _ c.from_residual.result c.from_residual.ensures.0
+
+pub returns-in_err-give-clause-short : goal.returns-in_err-give-clause-short
+returns-in_err-give-clause-short c = no-ok _ c.from_residual.result c.from_residual.ensures.0
+
+pub returns-in_err-give-clause-err : goal.returns-in_err-give-clause-err
+returns-in_err-give-clause-err c = on-err c.from_residual.result refl
+
+pub returns-then-not-is_image-clause-short : goal.returns-then-not-is_image-clause-short
+returns-then-not-is_image-clause-short c = nothing-short c.answers-then-not-is_image.ensures.nothing
+
+pub returns-in_err-restart-clause-carried : goal.returns-in_err-restart-clause-carried
+returns-in_err-restart-clause-carried c = no-ok _ c.from_residual-in_err-restart.result c.from_residual-in_err-restart.ensures.0
+
+pub returns-in_err-restart-clause-short : goal.returns-in_err-restart-clause-short
+returns-in_err-restart-clause-short c = no-ok _ c.from_residual-in_err-restart.result c.from_residual-in_err-restart.ensures.0

@@ -1,4 +1,4 @@
-use Rattle.std.proofs.Common.{◌≡◌, ◌∙◌, subst}
+use Rattle.std.proofs.Common.{◌≡◌, ◌∙◌, subst, refl}
 use Rattle.parts_model.specs.declared.open.Description.TheVariants.{Connection}
 use Rattle.arn_model.specs.ChannelCalls.{new_conn}
 use Rattle.guest_calls.specs.Channels.{with_client}
@@ -6,6 +6,7 @@ use Rattle.guest_calls.specs.Kept.{state_of}
 use Rattle.guest_calls.specs.State.{State}
 use Rattle.guest_calls.proofs.NewChannels.{client-state, same-state, taken-back}
 use Rattle.guest_calls.proofs.Room.{live-sound}
+use Rattle.guest_calls.proofs.Returned.{no-ok, not-ok, on-err}
 use Rattle.guest_calls.proofs.kernel.Kernel.open_client.Goals as goal
 
 pub returns-in-Ok-clause-opened : goal.returns-in-Ok-clause-opened
@@ -27,3 +28,18 @@ invariant_of-self-in-Ok c = live-sound c.self.inside c.args.self.now c.args.pid 
 
 pub invariant_of-self-in-Err : goal.invariant_of-self-in-Err
 invariant_of-self-in-Err c = live-sound c.self.inside c.args.self.now c.args.pid c.self.view_is c.self.invariant c.requires.live
+
+pub returns-in_err-conn-clause-opened : goal.returns-in_err-conn-clause-opened
+returns-in_err-conn-clause-opened c = not-ok _ c.from_residual.result c.from_residual.ensures.0
+
+pub returns-in_err-conn-clause-number : goal.returns-in_err-conn-clause-number
+returns-in_err-conn-clause-number c = no-ok _ c.from_residual.result c.from_residual.ensures.0
+
+pub returns-in_err-conn-clause-err : goal.returns-in_err-conn-clause-err
+returns-in_err-conn-clause-err c = on-err c.from_residual.result refl
+
+pub returns-in_err-number-clause-opened : goal.returns-in_err-number-clause-opened
+returns-in_err-number-clause-opened c = not-ok _ c.from_residual-in_err-number.result c.from_residual-in_err-number.ensures.0
+
+pub returns-in_err-number-clause-number : goal.returns-in_err-number-clause-number
+returns-in_err-number-clause-number c = no-ok _ c.from_residual-in_err-number.result c.from_residual-in_err-number.ensures.0

@@ -11,6 +11,7 @@ use Rattle.guest_calls.proofs.Carries.{acted-across, carried-by}
 use Rattle.guest_calls.proofs.Opening.{found-is}
 use Rattle.guest_calls.proofs.Stands.{machine_with}
 use Rattle.guest_calls.proofs.Room.{live-sound}
+use Rattle.guest_calls.proofs.Returned.{has-room, lives, no-ok, nothing-short}
 use Rattle.guest_calls.proofs.kernel.Kernel.open_found.Goals as goal
 
 pub returns-clause-carried : goal.returns-clause-carried
@@ -31,3 +32,21 @@ invariant_of-self c = live-sound c.self.inside c.args.self.now c.args.pid c.self
 
 pub invariant_of-self-2 : goal.invariant_of-self-2
 invariant_of-self-2 c = live-sound c.self.inside c.args.self.now c.args.pid c.self.view_is c.self.invariant c.requires.live
+
+pub returns-in-None-clause-short : goal.returns-in-None-clause-short
+returns-in-None-clause-short c = nothing-short c.answers.ensures.nothing
+
+pub returns-then-has_no_room-clause-short : goal.returns-then-has_no_room-clause-short
+returns-then-has_no_room-clause-short c = nothing-short c.answers-then-has_no_room.ensures.nothing
+
+pub returns-in_err-opened-clause-carried : goal.returns-in_err-opened-clause-carried
+returns-in_err-opened-clause-carried c = no-ok _ c.from_residual.result c.from_residual.ensures.0
+
+pub returns-in_err-opened-clause-short : goal.returns-in_err-opened-clause-short
+returns-in_err-opened-clause-short c = no-ok _ c.from_residual.result c.from_residual.ensures.0
+
+pub opened_as-requires-clause-live : goal.opened_as-requires-clause-live
+opened_as-requires-clause-live c = lives c.self.inside c.args.self.now c.args.pid c.self.view_is c.requires.live
+
+pub opened_as-requires-clause-room : goal.opened_as-requires-clause-room
+opened_as-requires-clause-room c = has-room c.self.inside c.args.self.now c.self.view_is c.requires.room

@@ -11,6 +11,7 @@ use Rattle.guest_calls.proofs.Carries.{acted-across, carried-by}
 use Rattle.guest_calls.proofs.Opening.{new-is}
 use Rattle.guest_calls.proofs.Stands.{machine_with}
 use Rattle.guest_calls.proofs.Room.{live-sound}
+use Rattle.guest_calls.proofs.Returned.{has-room, lives, nothing-short}
 use Rattle.guest_calls.proofs.kernel.Kernel.open_new.Goals as goal
 
 pub returns-in-Ok-clause-carried : goal.returns-in-Ok-clause-carried
@@ -37,3 +38,24 @@ invariant_of-self-in-Err-TooMany c = live-sound c.self.inside c.args.self.now c.
 
 pub invariant_of-self-in-Err : goal.invariant_of-self-in-Err
 invariant_of-self-in-Err c = live-sound c.self.inside c.args.self.now c.args.pid c.self.view_is c.self.invariant c.requires.live
+
+pub returns-then-is_some-clause-short : goal.returns-then-is_some-clause-short
+returns-then-is_some-clause-short c = nothing-short c.answers.ensures.nothing
+
+pub returns-then-has_no_room-clause-short : goal.returns-then-has_no_room-clause-short
+returns-then-has_no_room-clause-short c = nothing-short c.answers-then-has_no_room.ensures.nothing
+
+pub opened_as-requires-clause-live : goal.opened_as-requires-clause-live
+opened_as-requires-clause-live c = lives c.self.inside c.args.self.now c.args.pid c.self.view_is c.requires.live
+
+pub opened_as-requires-clause-room : goal.opened_as-requires-clause-room
+opened_as-requires-clause-room c = has-room c.self.inside c.args.self.now c.self.view_is c.requires.room
+
+pub answers-requires-in-Err-TooMany-clause-live : goal.answers-requires-in-Err-TooMany-clause-live
+answers-requires-in-Err-TooMany-clause-live c = lives c.self.inside c.args.self.now c.args.pid c.self.view_is c.requires.live
+
+pub answers-requires-in-Err-TooMany-clause-room : goal.answers-requires-in-Err-TooMany-clause-room
+answers-requires-in-Err-TooMany-clause-room c = has-room c.self.inside c.args.self.now c.self.view_is c.requires.room
+
+pub returns-in-Err-TooMany-clause-short : goal.returns-in-Err-TooMany-clause-short
+returns-in-Err-TooMany-clause-short c = nothing-short c.answers-in-Err-TooMany.ensures.nothing

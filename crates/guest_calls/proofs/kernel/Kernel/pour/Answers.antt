@@ -1,4 +1,4 @@
-use Rattle.std.proofs.Common.{◌≡◌, ℕ, List, min, length, take, Option, Some, IfSome, is_some, option_map, sym, ap, subst}
+use Rattle.std.proofs.Common.{◌≡◌, ℕ, List, min, length, take, Option, Some, IfSome, is_some, option_map, sym, ap, subst, refl}
 use Rattle.std.specs.Prelude.{IsNone, IsTrue, not}
 use Rattle.arn_base.specs.declared.records.Extra.TheVariants as extra
 use Rattle.parts_model.specs.Numbered.{nth}
@@ -15,6 +15,7 @@ use Rattle.guest_requests.specs.Transfers.{CanPour, pouring}
 use Rattle.guest_calls.proofs.Carries.{carried-same}
 use Rattle.guest_calls.proofs.Piped.{poured-carried, pouring-first}
 use Rattle.guest_calls.proofs.Stands.{at-seen, machine_with}
+use Rattle.guest_calls.proofs.Returned.{has-room, lives, no-ok, nothing-short, on-err}
 use Rattle.guest_calls.proofs.kernel.Kernel.pour.Goals as goal
 
 pub returns-clause-carried : goal.returns-clause-carried
@@ -38,3 +39,36 @@ returns-clause-carried c =
     (at-seen (seen_in c.args.self.now.guests c.args.pid) v (λ (w : View). length (read w c.args.at c.args.count) ≡ c.args.count) sees (subst (λ (s : State). IfSome (seen_in s.guests c.args.pid) (λ w. length (read w c.args.at c.args.count) ≡ c.args.count)) c.self.view_is c.in_ok-bytes.ensures.whole))
     c.min-few.ensures
     (at-seen (seen_in c.args.self.now.guests c.args.pid) v (λ (w : View). bytes ≡ take c.min-few.result (read w c.args.at c.args.count)) sees (subst (λ (s : State). IfSome (seen_in s.guests c.args.pid) (λ w. bytes ≡ take c.min-few.result (read w c.args.at c.args.count))) c.self.view_is c.in_ok-bytes.ensures.read)))
+
+pub first_of-requires-clause-live : goal.first_of-requires-clause-live
+first_of-requires-clause-live c = lives c.self.inside c.args.self.now c.args.pid c.self.view_is c.requires.live
+
+pub returns-in_err-bytes-clause-carried : goal.returns-in_err-bytes-clause-carried
+returns-in_err-bytes-clause-carried c = no-ok _ c.from_residual.result c.from_residual.ensures.0
+
+pub returns-in_err-bytes-clause-short : goal.returns-in_err-bytes-clause-short
+returns-in_err-bytes-clause-short c = no-ok _ c.from_residual.result c.from_residual.ensures.0
+
+pub returns-in_err-bytes-clause-err : goal.returns-in_err-bytes-clause-err
+returns-in_err-bytes-clause-err c = on-err c.from_residual.result refl
+
+pub returns-in_err-put-clause-carried : goal.returns-in_err-put-clause-carried
+returns-in_err-put-clause-carried c = no-ok _ c.from_residual-in_err-put.result c.from_residual-in_err-put.ensures.0
+
+pub returns-in_err-put-clause-short : goal.returns-in_err-put-clause-short
+returns-in_err-put-clause-short c = no-ok _ c.from_residual-in_err-put.result c.from_residual-in_err-put.ensures.0
+
+pub answers-requires-clause-live : goal.answers-requires-clause-live
+answers-requires-clause-live c = lives c.self.inside c.args.self.now c.args.pid c.self.view_is c.requires.live
+
+pub answers-requires-clause-room : goal.answers-requires-clause-room
+answers-requires-clause-room c = has-room c.self.inside c.args.self.now c.self.view_is c.requires.room
+
+pub returns-in-None-clause-short : goal.returns-in-None-clause-short
+returns-in-None-clause-short c = nothing-short c.answers.ensures.nothing
+
+pub returns-requires-clause-live : goal.returns-requires-clause-live
+returns-requires-clause-live c = lives c.self.inside c.args.self.now c.args.pid c.self.view_is c.requires.live
+
+pub returns-requires-clause-room : goal.returns-requires-clause-room
+returns-requires-clause-room c = has-room c.self.inside c.args.self.now c.self.view_is c.requires.room

@@ -1,4 +1,4 @@
-use Rattle.std.proofs.Common.{subst, sym, ap, ◌∙◌, ◌+◌, ◌≡◌, min, arith, List, ℕ, length, take, IfSome}
+use Rattle.std.proofs.Common.{subst, sym, ap, ◌∙◌, ◌+◌, ◌≡◌, min, arith, List, ℕ, length, take, IfSome, refl}
 use Rattle.parts_model.specs.declared.open.Description.TheVariants.{File}
 use Rattle.parts_model.specs.Files.{written}
 use Rattle.acts_model.specs.Views.{read}
@@ -13,6 +13,7 @@ use Rattle.guest_calls.proofs.Carries.{carried-same}
 use Rattle.guest_calls.proofs.Filed.{full-write, put-carried, put_at}
 use Rattle.guest_calls.proofs.Stands.{machine_with}
 use Rattle.guest_calls.proofs.Room.{live-sound}
+use Rattle.guest_calls.proofs.Returned.{has-room, lives, no-ok, nothing-short, on-err}
 use Rattle.guest_calls.proofs.kernel.Kernel.put.Goals as goal
 
 pub returns-then-room-eq0-clause-carried : goal.returns-then-room-eq0-clause-carried
@@ -41,3 +42,30 @@ invariant_of-self c = live-sound c.self.inside c.args.self.now c.args.pid c.self
 
 pub invariant_of-self-2 : goal.invariant_of-self-2
 invariant_of-self-2 c = live-sound c.self.inside c.args.self.now c.args.pid c.self.view_is c.self.invariant c.requires.live
+
+pub returns-then-room-eq0-clause-short : goal.returns-then-room-eq0-clause-short
+returns-then-room-eq0-clause-short c = nothing-short c.answers.ensures.nothing
+
+pub first_of-requires-clause-live : goal.first_of-requires-clause-live
+first_of-requires-clause-live c = lives c.self.inside c.args.self.now c.args.pid c.self.view_is c.requires.live
+
+pub returns-in_err-bytes-clause-carried : goal.returns-in_err-bytes-clause-carried
+returns-in_err-bytes-clause-carried c = no-ok _ c.from_residual.result c.from_residual.ensures.0
+
+pub returns-in_err-bytes-clause-short : goal.returns-in_err-bytes-clause-short
+returns-in_err-bytes-clause-short c = no-ok _ c.from_residual.result c.from_residual.ensures.0
+
+pub returns-in_err-bytes-clause-err : goal.returns-in_err-bytes-clause-err
+returns-in_err-bytes-clause-err c = on-err c.from_residual.result refl
+
+pub returns-in_err-write-clause-carried : goal.returns-in_err-write-clause-carried
+returns-in_err-write-clause-carried c = no-ok _ c.from_residual-in_err-write.result c.from_residual-in_err-write.ensures.0
+
+pub returns-in_err-write-clause-short : goal.returns-in_err-write-clause-short
+returns-in_err-write-clause-short c = no-ok _ c.from_residual-in_err-write.result c.from_residual-in_err-write.ensures.0
+
+pub returns-requires-clause-live : goal.returns-requires-clause-live
+returns-requires-clause-live c = lives c.self.inside c.args.self.now c.args.pid c.self.view_is c.requires.live
+
+pub returns-requires-clause-room : goal.returns-requires-clause-room
+returns-requires-clause-room c = has-room c.self.inside c.args.self.now c.self.view_is c.requires.room

@@ -10,6 +10,7 @@ use Rattle.guest_calls.proofs.Carries.{acted-across, carried-by}
 use Rattle.guest_calls.proofs.Opening.{seek-is}
 use Rattle.guest_calls.proofs.Stands.{machine_with}
 use Rattle.guest_calls.proofs.Room.{live-sound}
+use Rattle.guest_calls.proofs.Returned.{has-room, lives}
 use Rattle.guest_calls.proofs.kernel.Kernel.seek_file.Goals as goal
 
 pub returns-clause-carried : goal.returns-clause-carried
@@ -23,3 +24,9 @@ returns-clause-carried c place =
 
 pub invariant_of-self : goal.invariant_of-self
 invariant_of-self c = live-sound c.self.inside c.args.self.now c.args.pid c.self.view_is c.self.invariant c.requires.live
+
+pub returns-requires-clause-live : goal.returns-requires-clause-live
+returns-requires-clause-live c = lives c.self.inside c.args.self.now c.args.pid c.self.view_is c.requires.live
+
+pub returns-requires-clause-room : goal.returns-requires-clause-room
+returns-requires-clause-room c = has-room c.self.inside c.args.self.now c.self.view_is c.requires.room

@@ -18,6 +18,7 @@ use Rattle.guest_calls.proofs.Pieces.{taken-acted}
 use Rattle.guest_calls.proofs.Stands.{of_process, acted-stands}
 use Rattle.guest_calls.proofs.Past.{past-acted}
 use Rattle.guest_calls.proofs.Pieces.{body-sound}
+use Rattle.guest_calls.proofs.Returned.{lives, no-ok, on-err}
 use Rattle.guest_calls.proofs.kernel.Kernel.take.Goals as goal
 
 pub returns-clause-carried : goal.returns-clause-carried
@@ -47,3 +48,24 @@ pub invariant_of-self : goal.invariant_of-self
 invariant_of-self c =
     body-sound c.self.inside c.receives.new.self (c.self.inside.events + 1) c.self.invariant c.receives.ensures.watches
     (past-acted c.others_stay_unheld.ensures c.self.inside.bodies c.self.inside.events c.self.invariant.past c.receives.new.self c.args.pid (Receives c.args.at c.as_slice.result.now c.args.count) (c.receives.ensures.follows c.self.inside.events))
+
+pub returns-in_err-give-clause-carried : goal.returns-in_err-give-clause-carried
+returns-in_err-give-clause-carried c = no-ok _ c.from_residual.result c.from_residual.ensures.0
+
+pub returns-in_err-give-clause-short : goal.returns-in_err-give-clause-short
+returns-in_err-give-clause-short c = no-ok _ c.from_residual.result c.from_residual.ensures.0
+
+pub returns-in_err-give-clause-err : goal.returns-in_err-give-clause-err
+returns-in_err-give-clause-err c = on-err c.from_residual.result refl
+
+pub returns-in_err-spare-clause-carried : goal.returns-in_err-spare-clause-carried
+returns-in_err-spare-clause-carried c = no-ok _ c.from_residual-in_err-spare.result c.from_residual-in_err-spare.ensures.0
+
+pub returns-in_err-spare-clause-short : goal.returns-in_err-spare-clause-short
+returns-in_err-spare-clause-short c = no-ok _ c.from_residual-in_err-spare.result c.from_residual-in_err-spare.ensures.0
+
+pub returns-in_err-spare-clause-err : goal.returns-in_err-spare-clause-err
+returns-in_err-spare-clause-err c = on-err c.from_residual-in_err-spare.result refl
+
+pub receives-requires-clause-live : goal.receives-requires-clause-live
+receives-requires-clause-live c = lives c.self.inside c.args.self.now c.args.pid c.self.view_is c.requires.live

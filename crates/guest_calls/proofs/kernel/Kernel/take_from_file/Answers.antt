@@ -1,4 +1,4 @@
-use Rattle.std.proofs.Common.{subst, sym, is_some, true, ◌≡◌, ◌∙◌, ◌+◌, List, ℕ}
+use Rattle.std.proofs.Common.{subst, sym, is_some, true, ◌≡◌, ◌∙◌, ◌+◌, List, ℕ, refl}
 use Rattle.arn_base.specs.declared.records.Extra.TheVariants as extra
 use Rattle.acts_model.specs.Acts.{Receives, done}
 use Rattle.guest_bodies.specs.Follows.{Follows}
@@ -10,6 +10,7 @@ use Rattle.guest_calls.proofs.Filed.{filed-carried}
 use Rattle.parts_model.specs.Numbered.{nth}
 use Rattle.guest_calls.proofs.Past.{past-acted}
 use Rattle.guest_calls.proofs.Room.{acted-sound, booted-live}
+use Rattle.guest_calls.proofs.Returned.{lives, no-ok, nothing-short, on-err}
 use Rattle.guest_calls.proofs.kernel.Kernel.take_from_file.Goals as goal
 
 pub returns-clause-carried : goal.returns-clause-carried
@@ -25,3 +26,27 @@ invariant_of-self c =
     let live : is_some (nth c.self.inside.bodies c.args.pid) ≡ true = subst (λ (s : State). is_some (nth s.guests c.args.pid) ≡ true) (sym c.self.view_is) c.requires.live in
     acted-sound c.self.inside c.receives.new.self c.move_to.new.self.files c.move_to.new.self.descriptions (c.self.inside.events + 1) (booted-live c.self.inside c.args.pid c.self.invariant live) c.self.invariant c.receives.ensures.watches
     (past-acted c.others_stay_unheld.ensures c.self.inside.bodies c.self.inside.events c.self.invariant.past c.receives.new.self c.args.pid (Receives c.args.at c.as_slice.result.now c.len-count.result) (c.receives.ensures.follows c.self.inside.events))
+
+pub returns-in_err-spare-clause-carried : goal.returns-in_err-spare-clause-carried
+returns-in_err-spare-clause-carried c = no-ok _ c.from_residual.result c.from_residual.ensures.0
+
+pub returns-in_err-spare-clause-short : goal.returns-in_err-spare-clause-short
+returns-in_err-spare-clause-short c = no-ok _ c.from_residual.result c.from_residual.ensures.0
+
+pub returns-in_err-spare-clause-err : goal.returns-in_err-spare-clause-err
+returns-in_err-spare-clause-err c = on-err c.from_residual.result refl
+
+pub returns-in_err-give-clause-carried : goal.returns-in_err-give-clause-carried
+returns-in_err-give-clause-carried c = no-ok _ c.from_residual-in_err-give.result c.from_residual-in_err-give.ensures.0
+
+pub returns-in_err-give-clause-short : goal.returns-in_err-give-clause-short
+returns-in_err-give-clause-short c = no-ok _ c.from_residual-in_err-give.result c.from_residual-in_err-give.ensures.0
+
+pub returns-in_err-give-clause-err : goal.returns-in_err-give-clause-err
+returns-in_err-give-clause-err c = on-err c.from_residual-in_err-give.result refl
+
+pub returns-then-count-eq0-clause-short : goal.returns-then-count-eq0-clause-short
+returns-then-count-eq0-clause-short c = nothing-short c.answers.ensures.nothing
+
+pub receives-requires-clause-live : goal.receives-requires-clause-live
+receives-requires-clause-live c = lives c.self.inside c.args.self.now c.args.pid c.self.view_is c.requires.live

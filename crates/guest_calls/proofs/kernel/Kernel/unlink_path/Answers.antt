@@ -12,6 +12,7 @@ use Rattle.guest_calls.proofs.Carries.{acted-after, carried-by}
 use Rattle.guest_calls.proofs.Opening.{unlink-is}
 use Rattle.guest_calls.proofs.Stands.{machine_with}
 use Rattle.guest_calls.proofs.Room.{live-sound}
+use Rattle.guest_calls.proofs.Returned.{has-room, lives, nothing-short}
 use Rattle.guest_calls.proofs.kernel.Kernel.unlink_path.Goals as goal
 
 pub returns-in-Some-clause-carried : goal.returns-in-Some-clause-carried
@@ -33,3 +34,18 @@ invariant_of-self c = live-sound c.self.inside c.args.self.now c.args.pid c.self
 
 pub invariant_of-self-in-Some : goal.invariant_of-self-in-Some
 invariant_of-self-in-Some c = live-sound c.self.inside c.args.self.now c.args.pid c.self.view_is c.self.invariant c.requires.live
+
+pub answers-requires-clause-live : goal.answers-requires-clause-live
+answers-requires-clause-live c = lives c.self.inside c.args.self.now c.args.pid c.self.view_is c.requires.live
+
+pub answers-requires-clause-room : goal.answers-requires-clause-room
+answers-requires-clause-room c = has-room c.self.inside c.args.self.now c.self.view_is c.requires.room
+
+pub returns-requires-clause-live : goal.returns-requires-clause-live
+returns-requires-clause-live c = lives c.self.inside c.args.self.now c.args.pid c.self.view_is c.requires.live
+
+pub returns-requires-clause-room : goal.returns-requires-clause-room
+returns-requires-clause-room c = has-room c.self.inside c.args.self.now c.self.view_is c.requires.room
+
+pub returns-in-None-clause-short : goal.returns-in-None-clause-short
+returns-in-None-clause-short c = nothing-short c.answers.ensures.nothing
