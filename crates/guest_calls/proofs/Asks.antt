@@ -1,6 +1,6 @@
 -- Calls that may ask a device.
 use Rattle.std.proofs.Common.{◌≡◌, ℕ, ◌≤◌, true, List, ◌++◌, length, take, min, Some, IfSome, refl, sym, ap, ap₂, ◌∙◌, subst, arith}
-use Rattle.std.proofs.lemmas.List.{length-take-le, take_all}
+use Rattle.std.proofs.lemmas.List.{length-take, length-take-le, take_all}
 use Rattle.std.proofs.Math.Seq.{take-append_seam}
 use Rattle.arn_base.specs.declared.records.Extra.TheVariants as extra
 use Rattle.parts_model.specs.declared.open.Description.TheVariants.{Device}
@@ -70,6 +70,10 @@ module _ (m : Machine) (pid : ℕ) (v : View) (device : ℕ) where
 pub front-of : (count len : ℕ) (buffer rest : List ℕ) → length buffer ≡ len → take count (take len (buffer ++ rest)) ≡ take count buffer
 front-of count len buffer rest held =
     ap (take count) (ap (λ (n : ℕ). take n (buffer ++ rest)) (sym held) ∙ take-append_seam buffer rest)
+
+-- those that a process gets are no more than it asked for
+pub few-given : (count len most : ℕ) (bytes sent buffer : List ℕ) → sent ≡ bytes → bytes ≡ take count buffer → count ≤ len → len ≡ most → length sent ≤ most
+few-given count len most bytes sent buffer same is within whole = omega (arith, ap length same, ap length is, length-take count buffer)
 
 module _ {A : Type 0} (answers : A → devices.Asked → Answered → A → Type 0) (asked asked' : A) (pid : ℕ) (old new : State) where
   -- a call that asks

@@ -3,6 +3,7 @@ use Rattle.arn_model.specs.FileCalls.{close_row, dup_row, open_row, seek_row, un
 use Rattle.arn_model.specs.ProcessCalls.{exec_row, exit_row, fork_row, getpid_row, yield_row}
 use Rattle.arn_model.specs.SignalCalls.{kill_row, shm_row, sigaction_row, sigreturn_row}
 use Rattle.guest_calls.proofs.Called.{carried-call, carried-calls}
+use Rattle.guest_calls.proofs.Returned.{nothing-short, nothing-shorts}
 use Rattle.guest_calls.proofs.kernel.Kernel.carry_out_ready.Goals as goal
 
 pub returns-in-1-clause-carried : goal.returns-in-1-clause-carried
@@ -72,3 +73,42 @@ returns-in-8-clause-carried c =
 pub returns-in-17-clause-carried : goal.returns-in-17-clause-carried
 returns-in-17-clause-carried c =
     carried-calls c.args.self.now c.shm.new.self c.args.pid c.args.number 17 shm_row c.requires.number c.in-17.is c.calls_come_to_rows.ensures.shm c.shm.result c.shm.ensures.carried
+
+pub returns-in-1-clause-short : goal.returns-in-1-clause-short
+returns-in-1-clause-short c = nothing-short c.exit.ensures.nothing
+
+pub returns-in-5-clause-short : goal.returns-in-5-clause-short
+returns-in-5-clause-short c = nothing-short c.getpid.ensures.nothing
+
+pub returns-in-6-clause-short : goal.returns-in-6-clause-short
+returns-in-6-clause-short c = nothing-short c.kill.ensures.nothing
+
+pub returns-in-7-clause-short : goal.returns-in-7-clause-short
+returns-in-7-clause-short c = nothing-short c.sigaction.ensures.nothing
+
+pub returns-in-8-clause-short : goal.returns-in-8-clause-short
+returns-in-8-clause-short c = nothing-short c.sigreturn.ensures.nothing
+
+pub returns-in-10-clause-short : goal.returns-in-10-clause-short
+returns-in-10-clause-short c = nothing-short c.close.ensures.nothing
+
+pub returns-in-13-clause-short : goal.returns-in-13-clause-short
+returns-in-13-clause-short c = nothing-short c.seek.ensures.nothing
+
+pub returns-in-22-clause-short : goal.returns-in-22-clause-short
+returns-in-22-clause-short c = nothing-short c.yields.ensures.nothing
+
+pub returns-in-14-clause-short : goal.returns-in-14-clause-short
+returns-in-14-clause-short c = nothing-shorts c.dup.result c.dup.ensures.nothing
+
+pub returns-in-15-clause-short : goal.returns-in-15-clause-short
+returns-in-15-clause-short c = nothing-shorts c.pipe.result c.pipe.ensures.nothing
+
+pub returns-in-17-clause-short : goal.returns-in-17-clause-short
+returns-in-17-clause-short c = nothing-shorts c.shm.result c.shm.ensures.nothing
+
+pub returns-in-18-clause-short : goal.returns-in-18-clause-short
+returns-in-18-clause-short c = nothing-shorts c.listen.result c.listen.ensures.nothing
+
+pub returns-in-19-clause-short : goal.returns-in-19-clause-short
+returns-in-19-clause-short c = nothing-shorts c.connect.result c.connect.ensures.nothing

@@ -1,4 +1,4 @@
-use Rattle.std.proofs.Common.{◌≡◌, ◌∙◌, length, subst, ap, refl}
+use Rattle.std.proofs.Common.{◌≡◌, ◌∙◌, length, subst, ap, refl, sym}
 use Rattle.parts_model.specs.declared.open.Description.TheVariants.{Device}
 use Rattle.parts_model.specs.Replies.{IsAbsent}
 use Rattle.arn_model.specs.Doing.{Does, Here}
@@ -10,6 +10,8 @@ use Rattle.guest_calls.specs.State.{State, OfProcess}
 use Rattle.guest_calls.proofs.Asks.{here-absent, opened, replied}
 use Rattle.guest_calls.proofs.NewChannels.{opened-state, same-state, taken-back}
 use Rattle.guest_calls.proofs.Room.{live-sound}
+use Rattle.guest_calls.proofs.Returned.{no-ok, nothing-short}
+use Rattle.guest_calls.specs.Fits.{IsShort}
 use Rattle.guest_calls.proofs.kernel.Kernel.open_device.Goals as goal
 
 pub returns-then-here-clause-replied : goal.returns-then-here-clause-replied
@@ -39,3 +41,15 @@ invariant_of-self-then-here g c = live-sound c.self.inside c.args.self.now c.arg
 
 pub invariant_of-self-2 : goal.invariant_of-self-2
 invariant_of-self-2 g c = live-sound c.self.inside c.args.self.now c.args.pid c.self.view_is c.self.invariant c.requires.live
+
+pub returns-in_err-number-clause-replied : goal.returns-in_err-number-clause-replied
+returns-in_err-number-clause-replied g c = no-ok _ c.from_residual.result c.from_residual.ensures.0
+
+pub returns-in_err-number-clause-short : goal.returns-in_err-number-clause-short
+returns-in_err-number-clause-short g c = no-ok _ c.from_residual.result c.from_residual.ensures.0
+
+pub returns-then-here-clause-short : goal.returns-then-here-clause-short
+returns-then-here-clause-short g c = nothing-short c.answers_one.ensures.nothing
+
+pub returns-clause-short : goal.returns-clause-short
+returns-clause-short g c = subst IsShort (sym c.fails.ensures.extra) tt
