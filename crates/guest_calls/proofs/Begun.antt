@@ -1,5 +1,6 @@
 -- Process 1 among no others.
-use Rattle.std.proofs.Common.{◌≡◌, ◌≢◌, ℕ, zero, suc, ◌==◌, Bool, true, false, List, [], Option, Some, None, IfSome, is_some, refl, sym, ap, ◌∙◌, subst, true≢false}
+use Rattle.std.proofs.Common.{◌≡◌, ◌≢◌, ℕ, zero, suc, ◌==◌, Bool, true, false, List, [], length, Option, Some, None, IfSome, is_some, refl, sym, ap, ◌∙◌, subst, true≢false}
+use Rattle.std.specs.Prelude.{IsNone, nat_lt}
 use Rattle.std.proofs.lemmas.Bool.{eqb-true, eqb-false}
 use Rattle.parts_model.specs.Files.{Files}
 use Rattle.parts_model.specs.Numbered.{nth}
@@ -19,6 +20,18 @@ none-live all p none = ap (λ (x : Processes). is_some (live_process x p)) none 
     nobody : (q : ℕ) → is_some (live_process [] q) ≡ false
     nobody zero = refl
     nobody (suc i) = refl
+
+-- before any process, there is no body and nothing is open
+module _ (k : Inside) (kept : IsKept k) (none : k.procs ≡ []) where
+  absent : {A : Type 0} (o : Option A) → is_some o ≡ false → IsNone o
+  absent None is = refl
+  absent (Some x) is = absurd (true≢false is)
+
+  pub no-body : (p : ℕ) → IsNone (nth k.bodies p)
+  no-body p = absent (nth k.bodies p) (kept.alive p ∙ none-live k.procs p none)
+
+  pub none-open : k.resources.descriptions ≡ []
+  none-open = kept.closed (kept.made ∙ ap (λ (all : Processes). nat_lt 0 (length all)) none)
 
 first-other : (p : ℕ) → p ≢ 1 → process first_processes p ≡ None
 first-other zero other = refl
