@@ -20,9 +20,9 @@ use Rattle.session_runs.specs.Points.{Advances, Stops, Surroundings}
 use Rattle.session_runs.specs.Touches.{Answering}
 use Rattle.session_runs.specs.Turns.{Point}
 use Rattle.session_commands.specs.Given.{Given}
-use Rattle.session_text.specs.Answered.{AnswersParts, AnswersTaken}
+use Rattle.session_text.specs.Answered.{AnswersParts, AnswersTaken, TookAtMost}
 use Rattle.session_text.specs.Begun.{BeginsOn, FindsOn, standing}
-use Rattle.arn_session.specs.Opening.{HasOpened, IsOpened}
+use Rattle.arn_session.specs.Opening.{HasBegun, HasOpened, IsOpened}
 use Rattle.arn_session.specs.Status.{open_status_of}
 use Rattle.arn_session.specs.declared.status.Status.{Status}
 use Rattle.arn_session.specs.declared.status.Status.TheVariants as status
@@ -44,6 +44,20 @@ not-opened P (Some bytes) history log fits = λ bad. elim bad [
 pub never-opened : (error : OpenError) → HasOpened (open_status_of error) → ⊥
 never-opened (opening.TooLong len) has = has
 never-opened _ has = has
+
+-- a session that wasn't opened
+pub unopened : (s : Status) (o : Option (List ℕ)) → (HasOpened s → ⊥) → IfSome o (IsOpened s)
+unopened s None never = tt
+unopened s (Some bytes) never = λ has. absurd (never has)
+
+pub never-begun : (error : OpenError) → HasBegun (open_status_of error) → ⊥
+never-begun (opening.TooLong len) has = has
+never-begun _ has = has
+
+-- nothing was taken of a source with which nothing was done
+pub took-none : (most : ℕ) (o : Option (List ℕ)) → TookAtMost most o o
+took-none most None = tt
+took-none most (Some text) = omega arith
 
 -- in any case
 pub for-any : (P : Type 0) (o : Option (List ℕ)) (Q : List ℕ → Type 0) → P → IfSome o (λ bytes. Q bytes → P)
