@@ -3,6 +3,7 @@ pub mod Known
 pub mod Groups
 pub mod Same
 pub mod Fit
+pub mod Concluded
 pub mod Reaching
 pub mod Answered
 pub mod Takers

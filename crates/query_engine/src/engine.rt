@@ -1,5 +1,5 @@
 // Queries.
-ghost use Rattle.std.specs.Prelude.{◌≡◌, ◌≤◌, ◌+◌, IfErr, IfOk, IsOk, List, OnErr, length, true};
+ghost use Rattle.std.specs.Prelude.{◌≡◌, ◌≤◌, ◌+◌, IfErr, IfOk, IsOk, List, Ok, OnErr, length, true};
 ghost use Rattle.arn_base.specs.declared.records.Record.{Record};
 ghost use Rattle.rv64_model.specs.Carries.{operands};
 ghost use Rattle.exchange_graph.specs.Reach.{Rises};
@@ -15,10 +15,12 @@ ghost use Rattle.query_engine.specs.Names.{AnswersNamed, AnswersWritten, FailsNa
 ghost use Rattle.query_engine.specs.States.{AnswersHeld, FailsHeld};
 ghost use Rattle.parts_model.specs.declared.limits.TheConstants.{MOST_ASKED};
 ghost use Rattle.query_laws.specs.Names.{AreWritten};
+ghost use Rattle.replay_steps.specs.declared.errors.QueryError.TheVariants as error;
 ghost use Rattle.query_model.specs.Answers.{count_in, event_groups, moment_of};
 ghost use Rattle.query_model.specs.Answers as model;
 ghost use Rattle.query_model.specs.Names.{written_disagreement, written_groups};
 
+use crate::behind::behind;
 use crate::law::{laws, laws_of_names};
 use crate::{names, states};
 use arn_base::{Bytes, NoMemory, Numbers, Pairs, Record, Steps};
@@ -100,10 +102,7 @@ fn groups_about(
 {
     laws();
     let graph = Graph::build(alloc, entries, index)?;
-    match index.event_group(event) {
-        Some(group) => graph.back(&[group]),
-        None => graph.back(&[]),
-    }
+    behind(&graph, index.event_group(event))
 }
 
 /// The moment up to which groups are followed for an event.
@@ -174,6 +173,35 @@ impl Engine {
         Ok(Engine { alloc, kept })
     }
 
+    /// Keeps what followed groups, and answers with pairs; or memory ran out for these.
+    pub(crate) fn conclude(
+        &mut self,
+        entries: &[Record],
+        index: &Index,
+        groups: Numbers,
+        run: (Followed<'_>, Numbers),
+        pairs: Result<Pairs, NoMemory>,
+    ) -> Result<Answer, QueryError>
+        requires indexed { Indexes index.now entries.now }
+        requires rises { Rises groups }
+        requires of { run.0.entries ≡ entries.now }
+        requires seen { HasSeen entries.now self.old }
+        ensures pairs { IfOk result (λ answer. pairs ≡ Ok answer.pairs) }
+        ensures groups { IfOk result (λ answer. answer.groups ≡ groups) }
+        ensures replayed { IfOk result (λ answer. answer.replayed ≡ run.entry.1) }
+        ensures instructions { IfOk result
+            (λ answer. answer.instructions ≡ count_in entries.now groups) }
+        ensures err { IfErr result (λ why. why ≡ error.NoMemory) }
+        ensures left { OnErr result (AddsNone self.old self.new) }
+        ensures seen { HasSeen entries.now self.new }
+        ensures keep { keep_of self.new ≡ keep_of self.old }
+    {
+        let pairs = pairs?;
+        let (followed, replayed) = run;
+        followed.keep(entries, groups.as_slice(), &mut self.kept);
+        Ok(answer_of(entries, index, groups, pairs, replayed))
+    }
+
     /// Where bytes of an event come from that it has.
     fn event_back<L: Ledger>(
         &mut self,
@@ -201,14 +229,13 @@ impl Engine {
     {
         let groups = groups_about(self.alloc, entries, index, event)?;
         let until = moment_about(index, event);
-        let (followed, replayed) = self
+        let run = self
             .kept
             .follow_all(entries, index, linkage, groups.as_slice(), until, steps)?;
         let pairs = pairs(
-            self.alloc, entries, index, linkage, &followed, event, from, len,
-        )?;
-        followed.keep(entries, groups.as_slice(), &mut self.kept);
-        Ok(answer_of(entries, index, groups, pairs, replayed))
+            self.alloc, entries, index, linkage, &run.0, event, from, len,
+        );
+        self.conclude(entries, index, groups, run, pairs)
     }
 
     /// Where bytes come from that a process holds at a moment.
@@ -235,7 +262,7 @@ impl Engine {
         ensures keep { keep_of self.new ≡ keep_of self.old }
     {
         let groups = states::groups_of(self.alloc, entries, index, held.pid)?;
-        let (followed, replayed) = self.kept.follow_all(
+        let run = self.kept.follow_all(
             entries,
             index,
             linkage,
@@ -243,9 +270,8 @@ impl Engine {
             held.moment,
             steps,
         )?;
-        let pairs = states::pairs(self.alloc, entries, index, linkage, &followed, held)?;
-        followed.keep(entries, groups.as_slice(), &mut self.kept);
-        Ok(answer_of(entries, index, groups, pairs, replayed))
+        let pairs = states::pairs(self.alloc, entries, index, linkage, &run.0, held);
+        self.conclude(entries, index, groups, run, pairs)
     }
 
     /// Where bytes come from that a process holds at a moment, if they are there.
@@ -304,14 +330,11 @@ impl Engine {
         ensures keep { keep_of self.new ≡ keep_of self.old }
     {
         let groups = names::groups_of(self.alloc, entries, index, bytes)?;
-        let (followed, replayed) = self
+        let run = self
             .kept
             .follow_all(entries, index, linkage, groups.as_slice(), moment, steps)?;
-        let pairs = names::pairs(
-            self.alloc, entries, index, linkage, &followed, moment, bytes,
-        )?;
-        followed.keep(entries, groups.as_slice(), &mut self.kept);
-        Ok(answer_of(entries, index, groups, pairs, replayed))
+        let pairs = names::pairs(self.alloc, entries, index, linkage, &run.0, moment, bytes);
+        self.conclude(entries, index, groups, run, pairs)
     }
 
     /// Where bytes come from that the file has that a name stands for at a moment, if they are there.

@@ -8,7 +8,7 @@ ghost use Rattle.query_engine.specs.Asked.{RunsNothing};
 ghost use Rattle.query_engine.specs.Engines.{AddsNone, HasSeen, KeepsNone, ReplaysAll, keep_of};
 ghost use Rattle.query_engine.specs.Forth.{AnswersForth, FailsForth, ran_forth};
 
-use crate::engine::{Answer, Engine, answer_of};
+use crate::engine::{Answer, Engine};
 use crate::first::forth_groups;
 use crate::sinks::pairs_among;
 use arn_base::{Record, Steps};
@@ -45,7 +45,7 @@ impl Engine {
         ensures keep { keep_of self.new ≡ keep_of self.old }
     {
         let groups = forth_groups(self.alloc, entries, index, asked)?;
-        let (followed, replayed) = self.kept.follow_all(
+        let run = self.kept.follow_all(
             entries,
             index,
             linkage,
@@ -58,12 +58,11 @@ impl Engine {
             entries,
             index,
             linkage,
-            &followed,
+            &run.0,
             groups.as_slice(),
             asked,
-        )?;
-        followed.keep(entries, groups.as_slice(), &mut self.kept);
-        Ok(answer_of(entries, index, groups, pairs, replayed))
+        );
+        self.conclude(entries, index, groups, run, pairs)
     }
 
     /// Which bytes that went out are reached by bytes of an event, of which only bytes from outside reach

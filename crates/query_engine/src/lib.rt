@@ -2,6 +2,7 @@
 //! follows where bytes come from in each, and joins what they tell.
 #![tactic(auto)]
 
+mod behind;
 mod engine;
 mod first;
 mod forth;

@@ -8,6 +8,7 @@ ghost use Rattle.followed_pairs.specs.States.{is_held};
 ghost use Rattle.query_model.specs.States.{process_groups};
 ghost use Rattle.query_model.specs.States as model;
 
+use crate::behind::behind;
 use crate::law::{laws, laws_of_states};
 use arn_base::{NoMemory, Numbers, Pairs, Record};
 use exchange_graph::Graph;
@@ -33,10 +34,7 @@ pub fn groups_of(
 {
     laws();
     let graph = Graph::build(alloc, entries, index)?;
-    match index.group_of(pid) {
-        Some(group) => graph.back(&[group]),
-        None => graph.back(&[]),
-    }
+    behind(&graph, index.group_of(pid))
 }
 
 /// The pairs that answer of bytes that a process holds.

@@ -1,14 +1,13 @@
-use Rattle.std.proofs.Common.{Some, None, sym}
+use Rattle.std.proofs.Common.{sym}
 use Rattle.query_engine.proofs.HeldAnswered.{groups-are}
 use Rattle.query_engine.proofs.Same.{ok-map}
 use Rattle.query_engine.proofs.states.groups_of.Goals as goal
 
-pub returns-in-Some-clause-ok : goal.returns-in-Some-clause-ok
-returns-in-Some-clause-ok c =
-    ok-map c.back.result (groups-are c.args.entries.now c.args.pid c.laws.ensures.one c.requires.indexed.stands (Some c.in-Some.group) (sym (c.in-Some.ensures c.args.entries.now c.requires.indexed)))
-    (c.back.ensures.ok c.args.entries.now c.in_ok-graph.ensures.ok)
-
 pub returns-clause-ok : goal.returns-clause-ok
 returns-clause-ok c =
-    ok-map c.back-in-None.result (groups-are c.args.entries.now c.args.pid c.laws.ensures.one c.requires.indexed.stands None (sym (c.in-None.ensures c.args.entries.now c.requires.indexed)))
-    (c.back-in-None.ensures.ok c.args.entries.now c.in_ok-graph.ensures.ok)
+    ok-map c.behind.result
+    (groups-are c.args.entries.now c.args.pid c.laws.ensures.one c.requires.indexed.stands c.group_of.result (sym (c.group_of.ensures c.args.entries.now c.requires.indexed)))
+    (c.behind.ensures c.args.entries.now c.in_ok-graph.ensures.ok)
+
+pub returns-clause-rises : goal.returns-clause-rises
+returns-clause-rises c = ok-map c.behind.result (λ groups lists. lists.rises) (c.behind.ensures c.args.entries.now c.in_ok-graph.ensures.ok)
