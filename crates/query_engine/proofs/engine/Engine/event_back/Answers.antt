@@ -1,9 +1,10 @@
-use Rattle.std.proofs.Common.{◌≡◌, ℕ, ◌+◌, ◌≤◌, None, subst}
+use Rattle.std.proofs.Common.{◌≡◌, ℕ, ◌+◌, ◌≤◌, ◌∙◌, None, subst}
 use Rattle.rv64_model.specs.Carries.{operands}
+use Rattle.followed_groups.specs.Following.{IsOf}
 use Rattle.followed_groups.specs.Parts.{ran_in}
 use Rattle.query_model.specs.Answers.{event_groups, event_pairs, first_disagreement, moment_of}
 use Rattle.query_engine.specs.Asked.{FailsEvent}
-use Rattle.query_engine.proofs.Concluded.{bounds, counts, fails, leaves, replays, tells}
+use Rattle.query_engine.proofs.Concluded.{bounds, counts, fails, has-asked, leaves, replays, tells}
 use Rattle.query_engine.proofs.Same.{ok-map}
 use Rattle.query_engine.proofs.engine.Engine.event_back.Goals as goal
 
@@ -50,3 +51,13 @@ returns-clause-all g c none =
 
 pub returns-clause-left : goal.returns-clause-left
 returns-clause-left g c = leaves c.args.self.now.kept c.follow_all.new.self c.conclude.new.self.kept c.follow_all.ensures.adds c.conclude.result c.conclude.ensures.left
+
+pub pairs-pairs-requires-clause-of : goal.pairs-pairs-requires-clause-of
+pairs-pairs-requires-clause-of g c =
+    subst (λ (m : ℕ). IsOf c.args.entries.now c.args.linkage m c.in_ok-run.run'.0) (c.moment_about-until.ensures c.args.entries.now c.requires.indexed) c.in_ok-run.ensures.of
+
+pub pairs-pairs-requires-clause-has : goal.pairs-pairs-requires-clause-has
+pairs-pairs-requires-clause-has g c = has-asked c.in_ok-run.run'.0 (c.as_slice.ensures ∙ c.in_ok-groups.ensures.ok) c.in_ok-run.ensures.has
+
+pub conclude-requires-clause-of : goal.conclude-requires-clause-of
+conclude-requires-clause-of g c = c.in_ok-run.ensures.of.entries_are

@@ -1,12 +1,13 @@
-use Rattle.std.proofs.Common.{◌≡◌, ℕ, ◌+◌, ◌≤◌, List, None, ap, subst, ◌∙◌}
+use Rattle.std.proofs.Common.{◌≡◌, ℕ, ◌+◌, ◌≤◌, List, None, ap, sym, subst, ◌∙◌}
 use Rattle.rv64_model.specs.Carries.{operands}
 use Rattle.history_model.specs.Moments.{total}
+use Rattle.followed_groups.specs.Following.{HasOnly, IsOf}
 use Rattle.followed_groups.specs.Parts.{ran_in}
 use Rattle.query_model.specs.Answers.{first_disagreement}
 use Rattle.query_model.specs.Forth.{forth_groups}
 use Rattle.query_model.specs.Sinks.{forth_pairs, pairs_among}
 use Rattle.query_engine.specs.Forth.{FailsForth}
-use Rattle.query_engine.proofs.Concluded.{bounds, counts, fails, leaves, replays, tells}
+use Rattle.query_engine.proofs.Concluded.{bounds, counts, fails, has-asked, leaves, replays, tells}
 use Rattle.query_engine.proofs.Same.{ok-map}
 use Rattle.query_engine.proofs.engine.Engine.event_forth.Goals as goal
 
@@ -50,3 +51,16 @@ returns-clause-all g c none =
 
 pub returns-clause-left : goal.returns-clause-left
 returns-clause-left g c = leaves c.args.self.now.kept c.follow_all.new.self c.conclude.new.self.kept c.follow_all.ensures.adds c.conclude.result c.conclude.ensures.left
+
+pub pairs_among-pairs-requires-clause-of : goal.pairs_among-pairs-requires-clause-of
+pairs_among-pairs-requires-clause-of g c =
+    subst (λ (m : ℕ). IsOf c.args.entries.now c.args.linkage m c.in_ok-run.run'.0) (c.total.ensures c.args.entries.now c.requires.indexed) c.in_ok-run.ensures.of
+
+pub pairs_among-pairs-requires-clause-has : goal.pairs_among-pairs-requires-clause-has
+pairs_among-pairs-requires-clause-has g c = has-asked c.in_ok-run.run'.0 (c.as_slice.ensures ∙ sym c.as_slice-2.ensures) c.in_ok-run.ensures.has
+
+pub pairs_among-pairs-requires-clause-only : goal.pairs_among-pairs-requires-clause-only
+pairs_among-pairs-requires-clause-only g c = subst (λ (xs : List ℕ). HasOnly c.in_ok-run.run'.0 xs) (c.as_slice.ensures ∙ sym c.as_slice-2.ensures) c.in_ok-run.ensures.only
+
+pub conclude-requires-clause-of : goal.conclude-requires-clause-of
+conclude-requires-clause-of g c = c.in_ok-run.ensures.of.entries_are
