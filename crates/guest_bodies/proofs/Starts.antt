@@ -1,5 +1,5 @@
 -- How a process starts from an image: one that lives, or process 1 among none.
-use Rattle.std.proofs.Common.{◌≡◌, ℕ, ◌<◌, ◌==◌, Bool, true, false, List, [], length, set, Option, Some, None, IsNone, is_some, option_map, ap, ap₂, subst, sym, refl, ◌∙◌, arith}
+use Rattle.std.proofs.Common.{◌≡◌, ℕ, ◌<◌, ◌==◌, Bool, true, false, List, [], length, set, Option, Some, None, IfSome, IsNone, is_some, option_map, ap, ap₂, subst, sym, refl, ◌∙◌, arith}
 use Rattle.std.proofs.lemmas.Bool.Decides.{nat_tests}
 use Rattle.std.proofs.lemmas.Bool.{eqb-true, eqb-false}
 use Rattle.arn_base.specs.declared.machine.Cpu.{Cpu}
@@ -57,6 +57,14 @@ module _ {guests : Guests} {all : List (Option Guest)} {segs : Segments} {p : �
 
   starts-seen : seen_in guests p ≡ Some (view_of segs g)
   starts-seen = ap (λ (gs : Guests). seen_in gs p) (sym at.shown) ∙ (seen-shown all segs p ∙ ap (option_map (view_of segs)) at.stands)
+
+  -- what it begins with, told by what it sees
+  pub starts-first : (file : List ℕ) (from len : ℕ) → IfSome (seen_in guests p) (λ v. first.cpu ≡ cpu_at_start (read_as_image file).entry (length (read v from len))) → IfSome (seen_in guests p) (λ v. first.space.bytes ≡ window_at_start (read_as_image file) (read v from len)) → IsFirst file (read (view_of segs g) from len) first
+  starts-first file from len cpu space =
+      record {
+        cpu = subst (λ (o : Option View). IfSome o (λ v. first.cpu ≡ cpu_at_start (read_as_image file).entry (length (read v from len)))) starts-seen cpu;
+        space = subst (λ (o : Option View). IfSome o (λ v. first.space.bytes ≡ window_at_start (read_as_image file) (read v from len))) starts-seen space;
+      }
 
   pub starts-follows : (file block : List ℕ) (from len : ℕ) → IsFirst file block first → block ≡ read (view_of segs g) from len → Follows guests (done p event (Starts file from len)) (shown_all (set all p (Some (starting g event first))) segs)
   starts-follows file block from len is bytes =

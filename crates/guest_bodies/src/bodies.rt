@@ -3,10 +3,10 @@ ghost use Rattle.std.specs.Prelude.{◌≡◌, ◌≤◌, ◌<◌, ◌+◌, ◌^
 ghost use Rattle.acts_model.specs.Acts.{Act, Receives, Starts, Forks, Founds, Shares, Leaves, Delivers, begun, beginning_in, beginning_of, done, start_of, unborn};
 ghost use Rattle.acts_model.specs.Bodies.{put};
 ghost use Rattle.parts_model.specs.Blocks.{blocks_of};
-ghost use Rattle.parts_model.specs.Image.{is_image};
+ghost use Rattle.parts_model.specs.Image.{is_image, read_as_image};
 ghost use Rattle.parts_model.specs.Numbered.{nth};
 ghost use Rattle.parts_model.specs.Signals.{can_set, due_signal, handler_of, is_signal, with_handler, with_pending, without};
-ghost use Rattle.acts_model.specs.Views.{bytes_in, can_reach, stands_at};
+ghost use Rattle.acts_model.specs.Views.{bytes_in, can_reach, cpu_at_start, read, stands_at, window_at_start};
 ghost use Rattle.guest_mem.specs.Pages.{IsEnough};
 ghost use Rattle.rv64_core.specs.Outcome.{OnStop};
 ghost use Rattle.rv64_core.specs.Prospect.{Foretells};
@@ -401,6 +401,26 @@ impl Bodies {
         Ok(())
     }
 
+    // What a process begins with that starts anew from an image file. The bytes of a range of its
+    // addresses become its argument block; where they don't lie whole in one window, it is empty.
+    fn first(&self, pid: u32, file: &[u8], at: u64, len: u64) -> Result<First, NoMemory>
+        requires live { IsLive self.now pid }
+        requires image { IsTrue (is_image file.now) }
+        requires few { len ≤ MOST_BLOCK_BYTES }
+        ensures cpu { IfOk result (λ first. IfSome (seen_in self.now pid) (λ v.
+            first.cpu ≡ cpu_at_start (read_as_image file.now).entry (length (read v at len)))) }
+        ensures space { IfOk result (λ first. IfSome (seen_in self.now pid) (λ v.
+            first.space.bytes ≡ window_at_start (read_as_image file.now) (read v at len))) }
+    {
+        match &self.guests[pid as usize] {
+            Some(guest) => {
+                let block = held::block(self.alloc, guest, &self.segments, at, len)?;
+                First::new(self.alloc, file, block.as_slice())
+            }
+            None => unreachable!(),
+        }
+    }
+
     /// A process starts anew from an image file. The bytes of a range of its addresses become its
     /// argument block; where they don't lie whole in one window, it is empty.
     pub fn starts(
@@ -421,13 +441,7 @@ impl Bodies {
             (SetsWatch pid (option_map restarted (watch_in self.old pid)) self.old self.new) }
         ensures err { OnErr result (self.new ≡ self.old) }
     {
-        let first = match &self.guests[pid as usize] {
-            Some(guest) => {
-                let block = held::block(self.alloc, guest, &self.segments, at, len)?;
-                First::new(self.alloc, file, block.as_slice())?
-            }
-            None => unreachable!(),
-        };
+        let first = self.first(pid, file, at, len)?;
         let former = match &mut self.guests[pid as usize] {
             Some(guest) => guest.starts(event, first),
             None => unreachable!(),
