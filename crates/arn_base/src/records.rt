@@ -34,7 +34,7 @@ pub struct Give {
 
 /// How a process begins that a fork made: its registers, the saved ones where there are any, and the
 /// blocks of its private window that aren't all zero, rising.
-#[derive(Debug, Drop, PartialEq, Eq)]
+#[derive(Drop, PartialEq, Eq)]
 pub struct Start {
     pub cpu: Cpu,
     pub slot: Option<Cpu>,
@@ -42,7 +42,7 @@ pub struct Start {
 }
 
 /// What a call did, beside its result.
-#[derive(Debug, Drop, PartialEq, Eq)]
+#[derive(Drop, PartialEq, Eq)]
 pub enum Extra {
     Nothing,
     /// The bytes that the process received.
@@ -66,7 +66,7 @@ pub enum Extra {
 }
 
 /// One record of a run.
-#[derive(Debug, Drop, PartialEq, Eq)]
+#[derive(Drop, PartialEq, Eq)]
 pub enum Record {
     /// A file was added before the start.
     File {

@@ -99,7 +99,7 @@ fn commits_behind_what_was_there(rt: HostRuntime) -> Result<(), Fail> {
         behind_first(alloc, 1, &SECOND)?.as_slice(),
     );
     let want = [file(alloc, b"a", b"ab")?, file(alloc, b"b", b"c")?];
-    assert_same(&rt, store.entries(), want.as_slice());
+    assert!(rt; store.entries() == want.as_slice());
     assert!(rt; store.usable());
     for fill in FILLS {
         for short in [false, true] {

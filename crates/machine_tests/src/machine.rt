@@ -222,7 +222,7 @@ fn recorded(rt: &impl Abort, alloc: Global, steps: &[Step]) -> Result<Vec<Record
 
 // It records just that.
 fn check(rt: &impl Abort, alloc: Global, steps: &[Step], parts: &[Part]) -> Result<(), NoMemory> {
-    assert_same(rt, recorded(rt, alloc, steps)?, records(alloc, parts)?);
+    assert!(rt; recorded(rt, alloc, steps)? == records(alloc, parts)?);
     Ok(())
 }
 
