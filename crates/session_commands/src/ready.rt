@@ -48,7 +48,7 @@ pub fn make_machine<Q: Questions, L: Ledger>(
     }
     match Machine::rebuild(kept.alloc, kept.store.entries(), steps) {
         Ok(machine) => {
-            kept.machine = Some(machine);
+            let _ = kept.machine.insert(machine);
             Ok(())
         }
         Err(error) => Err(rebuild_halt(error)),
