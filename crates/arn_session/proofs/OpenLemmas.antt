@@ -1,27 +1,30 @@
 -- A session behind the opening of its log.
-use Rattle.std.proofs.Common.{◌≡◌, ◌≢◌, inl, ℕ, ◌≤◌, ◌++◌, List, [], length, Option, inr, Some, None, IfSome, refl, sym, subst, ◌∙◌, append-nil, arith, ◌<◌, ◌⊎◌}
+use Rattle.std.proofs.Common.{◌≡◌, ◌≢◌, inl, ℕ, ◌≤◌, ◌++◌, List, [], length, Option, inr, Some, None, IfSome, refl, sym, subst, append-nil, arith, ◌<◌, ◌⊎◌}
 use Rattle.std.proofs.lemmas.Option.{IfSome_then}
 use Rattle.arn_base.specs.declared.disk.Disk.{Ghosts}
 use Rattle.arn_base.specs.declared.records.Record.{Record}
-use Rattle.arn_commands.specs.Parts.{Part, text_parts}
+use Rattle.arn_commands.specs.Parts.{Part, text_parts, whole_parts}
 use Rattle.log_model.specs.Records.{IsRun}
 use Rattle.log_store.specs.Causes.{IsCauseOf}
 use Rattle.log_store.specs.Log.{IsLog}
 use Rattle.log_store.specs.Refused.{IsNoLog}
+use Rattle.log_store.specs.Stops.{GoesOn}
 use Rattle.log_store.specs.Stores.{StoreState, IsLeftBy}
 use Rattle.log_store.specs.declared.errors.OpenError.{OpenError}
 use Rattle.log_store.specs.declared.errors.OpenError.TheVariants as opening
 use Rattle.log_store.specs.declared.size.TheConstants.{MOST_LOG}
 use Rattle.session_effects.specs.Carrying.{HoldsLog, IsAtRest, IsShut, CarriesOut, RestsMore}
-use Rattle.session_effects.specs.Laws.{BehindHalts, OpenedCarries}
+use Rattle.session_effects.specs.Laws.{BehindHalts, OpenedCarries, OpenedLeaves, OpenedRests, OpensLog}
 use Rattle.session_effects.specs.declared.halt.Halt.{Halt}
 use Rattle.session_effects.specs.declared.halt.Halt.TheVariants as halt
 use Rattle.session_runs.specs.Points.{Advances, Stops, Surroundings}
 use Rattle.session_runs.specs.Touches.{Answering}
 use Rattle.session_runs.specs.Turns.{Point}
 use Rattle.session_commands.specs.Given.{Given}
-use Rattle.session_text.specs.Answered.{AnswersParts, AnswersTaken, TookAtMost}
+use Rattle.session_text.specs.Answered.{AnswersParts, TookAtMost}
 use Rattle.session_text.specs.Begun.{BeginsOn, FindsOn, standing}
+use Rattle.arn_session.proofs.FaultLemmas.{Rose-after, goes-both}
+use Rattle.arn_session.proofs.ToldLemmas.{Told}
 use Rattle.arn_session.specs.Opening.{HasBegun, HasOpened, IsOpened}
 use Rattle.arn_session.specs.Status.{open_status_of}
 use Rattle.arn_session.specs.declared.status.Status.{Status}
@@ -188,26 +191,35 @@ module _ {D A : Type 0} (d : Ghosts D) (who : Answering A) (g : Given) (carries 
     costs = b.costs;
   }
 
-  -- a session that answered all, behind its opening
-  pub Answers-opened : (history : List Record) → entries ≡ history → (l0 : Option (List ℕ)) → IfSome l0 (λ text. AnswersParts who g entries (text_parts text) u v (CarriesOut IsRun d mid new entries h0 h1)) → IfSome l0 (λ text. AnswersParts who g history (text_parts text) u v (CarriesOut IsRun d old new history h0 h1))
-  Answers-opened history same l0 answers =
-      subst (λ (h : List Record). IfSome l0 (λ text. AnswersParts who g h (text_parts text) u v (CarriesOut IsRun d old new h h0 h1))) same
-      (IfSome_then l0 answers (λ text a. Answers-behind (text_parts text) a))
-
-  pub Taken-opened : (history : List Record) → entries ≡ history → (l0 l : Option (List ℕ)) (parts : List ℕ → List Part) → AnswersTaken who g entries l0 l parts u v (CarriesOut IsRun d mid new entries h0 h1) → AnswersTaken who g history l0 l parts u v (CarriesOut IsRun d old new history h0 h1)
-  Taken-opened history same l0 l parts a =
-      subst (λ (h : List Record). AnswersTaken who g h l0 l parts u v (CarriesOut IsRun d old new h h0 h1)) same
-      (record { taken = a.taken; is_taken = a.is_taken; answered = Answers-behind (parts a.taken) a.answered })
-
-  -- one that stopped
-  pub Begins-opened : (history : List Record) → entries ≡ history → (why is_why : Halt) → why ≡ is_why → (is_why ≢ halt.Source) → (is_why ≢ halt.Long) → (l0 l : Option (List ℕ)) → (why ≢ halt.Source → why ≢ halt.Long → IfSome l0 (λ text. BeginsOn d who g entries (standing mid h0 u) (standing new h1 v) why text l)) → IfSome l0 (λ text. BeginsOn d who g history (standing old h0 u) (standing new h1 v) is_why text l)
-  Begins-opened history same why is_why is not_source not_long l0 l stops =
-      subst (λ (h : List Record). IfSome l0 (λ text. BeginsOn d who g h (standing old h0 u) (standing new h1 v) is_why text l)) same
-      (subst (λ (w : Halt). IfSome l0 (λ text. BeginsOn d who g entries (standing old h0 u) (standing new h1 v) w text l)) is
-      (IfSome_then l0 (stops (λ e. not_source (sym is ∙ e)) (λ e. not_long (sym is ∙ e))) (λ text b. Begins-behind why text l b)))
-
-  -- one that found out that its history isn't a run's
-  pub Finds-opened : (history : List Record) → entries ≡ history → (l0 l : Option (List ℕ)) → IfSome l0 (λ text. FindsOn d who g entries (standing mid h0 u) (standing new h1 v) text l) → IfSome l0 (λ text. FindsOn d who g history (standing old h0 u) (standing new h1 v) text l)
-  Finds-opened history same l0 l finds =
-      subst (λ (h : List Record). IfSome l0 (λ text. FindsOn d who g h (standing old h0 u) (standing new h1 v) text l)) same
-      (IfSome_then l0 finds (λ text b. Finds-behind text l b))
+  -- what the status of a session tells that began where its log was opened it tells also from before that
+  pub Told-opened : OpenedLeaves IsRun d → OpenedRests IsRun d → OpensLog d old mid → GoesOn d.image d.faults old mid → (history : List Record) → entries ≡ history → {s : Status} {l0 l1 : Option (List ℕ)} {f0 f1 k0 k1 : ℕ} →
+      Told d who g s entries (record { stands = standing mid h0 u; left = l0; source_faults = f0; sink_faults = k0 }) (record { stands = standing new h1 v; left = l1; source_faults = f1; sink_faults = k1 }) →
+      Told d who g s history (record { stands = standing old h0 u; left = l0; source_faults = f0; sink_faults = k0 }) (record { stands = standing new h1 v; left = l1; source_faults = f1; sink_faults = k1 })
+  Told-opened leaves_behind rests_behind opens later history same {s} {l0} {l1} {f0} {f1} {k0} {k1} p =
+      let begins : (why : Halt) → IfSome l0 (λ text. BeginsOn d who g entries (standing mid h0 u) (standing new h1 v) why text l1) → IfSome l0 (λ text. BeginsOn d who g entries (standing old h0 u) (standing new h1 v) why text l1) = λ why b. IfSome_then l0 b (λ text begun. Begins-behind why text l1 begun) in
+      subst (λ (h : List Record). Told d who g s h (record { stands = standing old h0 u; left = l0; source_faults = f0; sink_faults = k0 }) (record { stands = standing new h1 v; left = l1; source_faults = f1; sink_faults = k1 })) same (record {
+        usage = p.usage;
+        read = p.read;
+        answered = λ is. IfSome_then l0 (p.answered is) (λ text a. Answers-behind (text_parts text) a);
+        short = p.short;
+        source = p.source;
+        sink = p.sink;
+        disk = λ is. Rose-after (d.faults old) (d.faults mid) (d.faults new) later.never_falls p.later.never_falls (p.disk is);
+        early = p.early;
+        cut = λ is. begins halt.Sink (p.cut is);
+        stopped = λ is. begins halt.Disk (p.stopped is);
+        full = λ log payload is. begins (halt.Full log payload) (p.full log payload is);
+        begun = λ is. begins halt.NoMemory (p.begun is);
+        refused = p.refused;
+        broken = p.broken;
+        differs = λ at is. let found = p.differs at is in (found.0, IfSome_then l0 found.1 (λ text f. Finds-behind text l1 f));
+        long = p.long;
+        taken = λ which. let a = p.taken which in record { taken = a.taken; is_taken = a.is_taken; answered = Answers-behind (whole_parts a.taken) a.answered };
+        touched = p.touched;
+        any_moment = leaves_behind old mid new entries entries h0 refl opening opens p.any_moment;
+        rests = λ not_disk not_memory. rests_behind old mid new entries entries h0 refl opening (p.rests not_disk not_memory);
+        shut = p.shut;
+        at_most = p.at_most;
+        numbers = p.numbers;
+        later = goes-both d.image d.faults old mid new later p.later;
+      })

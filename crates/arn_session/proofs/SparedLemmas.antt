@@ -1,8 +1,6 @@
--- How those who answer for devices were touched where a session doesn't begin, and behind its opening.
-use Rattle.std.proofs.Common.{◌≡◌, ℕ, List, [], Bool, true, false, refl, sym, subst}
+-- How those who answer for devices were touched where a session doesn't begin.
+use Rattle.std.proofs.Common.{◌≡◌, ℕ, List, [], Bool, true, false, refl, sym}
 use Rattle.std.specs.Prelude.{◌&&◌, not}
-use Rattle.arn_base.specs.declared.records.Record.{Record}
-use Rattle.history_model.specs.Unplugged.{unplugged_in}
 use Rattle.session_runs.specs.Touches.{Answering}
 use Rattle.session_text.specs.Gone.{WereSpared, WereTouched}
 
@@ -17,7 +15,3 @@ untouched who now = record { touches = []; slices = []; touched = (refl, refl); 
 pub touched-none : {A : Type 0} (who : Answering A) (gone : List ℕ) (now : A) → WereSpared who gone now now
 unfolding untouched
 touched-none who gone now = record { were = untouched who now; spared = tt }
-
--- a history may be told in another way
-pub spared-same : {A : Type 0} {who : Answering A} {old new : A} (h history : List Record) → h ≡ history → WereSpared who (unplugged_in h) old new → WereSpared who (unplugged_in history) old new
-spared-same {A} {who} {old} {new} h history same w = subst (λ (x : List Record). WereSpared who (unplugged_in x) old new) same w

@@ -108,6 +108,7 @@ Alike-same status.Sink = tt
 Alike-same (status.Full log payload) = tt
 Alike-same status.Long = tt
 
+-- statuses that are one are of one kind
 pub alike : (s t : Status) → s ≡ t → Alike s t
 alike s t is = subst (Alike s) is (Alike-same s)
 
@@ -133,6 +134,7 @@ refusal-of (opening.Malformed at) = tt
 refusal-of opening.Disk = tt
 refusal-of opening.NoMemory = tt
 
+-- a status of a refusal is no other one
 pub refused-as : (error : OpenError) (s t : Status) → s ≡ open_status_of error → s ≡ t → IsRefusal t
 refused-as error s t of is = subst IsRefusal (sym of ∙ is) (refusal-of error)
 
@@ -178,6 +180,7 @@ halted-of halt.Disk = tt
 halted-of (halt.Full log payload) = tt
 halted-of (halt.Differs d) = tt
 
+-- a status of a halt is no other one
 pub halted-as : (why : Halt) (s t : Status) → s ≡ status_of why → s ≡ t → IsHalted t
 halted-as why s t of is = subst IsHalted (sym of ∙ is) (halted-of why)
 

@@ -1,5 +1,5 @@
 -- A session that ends before it begins, since its log wasn't opened.
-use Rattle.std.specs.Prelude.{◌≡◌, ℕ, ◌≤◌, List, [], length, Option}
+use Rattle.std.specs.Prelude.{◌≡◌, ℕ, ◌≤◌, List, [], length}
 use Rattle.arn_base.specs.declared.records.Record.{Record}
 use Rattle.arn_base.specs.declared.disk.Disk.{Ghosts}
 use Rattle.log_store.specs.Log.{IsLog}

@@ -1,6 +1,5 @@
 use Rattle.std.proofs.Common.{◌≡◌, ◌⊎◌, ◌<◌, ◌^◌, ℕ, inl, inr, [], List, length, Err, IfSome, None, Some, append-nil, refl, sym, ap, subst, ◌∙◌}
 use Rattle.arn_base.specs.declared.records.Record.{Record}
-use Rattle.arn_commands.specs.Parts.{whole_parts}
 use Rattle.history_index.specs.Errors.{TellsBroken}
 use Rattle.history_index.specs.declared.errors.IndexError.{IndexError}
 use Rattle.history_model.specs.Broken.{first_broken}
@@ -9,25 +8,21 @@ use Rattle.log_store.specs.Causes.{IsCauseOf, BlamesBytes}
 use Rattle.log_store.specs.Refused.{IsNoLog}
 use Rattle.log_store.specs.Stops.{IsOnlyRead}
 use Rattle.log_store.specs.declared.size.TheConstants.{MOST_LOG}
-use Rattle.session_effects.specs.Carrying.{IsAtRest}
-use Rattle.session_effects.specs.declared.halt.Halt.{Halt}
-use Rattle.session_effects.specs.declared.halt.Halt.TheVariants as halt
-use Rattle.session_commands.specs.Answering.{IsNoRun}
+use Rattle.session_effects.specs.Carrying.{HoldsLog, IsAtRest}
 use Rattle.guest_devices.specs.Slots.{is_filled}
 use Rattle.session_commands.specs.Given.{given}
 use Rattle.session_questions.specs.Texts.{told}
 use Rattle.arn_words.specs.declared.options.WordsError.{WordsError}
 use Rattle.log_store.specs.declared.errors.OpenError.{OpenError}
 use Rattle.log_store.specs.declared.errors.OpenError.TheVariants as opening
-use Rattle.arn_session.specs.Status.{status_of}
 use Rattle.arn_session.specs.declared.status.Status.TheVariants as status
 use Rattle.arn_session.specs.declared.status.Damage.TheVariants as damage
-use Rattle.arn_session.proofs.FaultLemmas.{Rose-after, goes-both, goes-nowhere}
+use Rattle.arn_session.proofs.FaultLemmas.{goes-nowhere}
 use Rattle.arn_session.specs.Opening.{HasBegun, HasOpened}
-use Rattle.arn_session.proofs.OpenLemmas.{left-shut, never-opened, rest-log, rests-opened, Begins-opened, Answers-opened, Taken-opened, Finds-opened, log-is-none, not-opened, for-any, never-begun, took-none, unopened, with-never, told-both}
-use Rattle.arn_session.proofs.SparedLemmas.{spared-same, touched-none, untouched}
-use Rattle.arn_session.proofs.ResultLemmas.{err-at, ok-at}
-use Rattle.arn_session.proofs.StatusLemmas.{alike, blames-log, broken-is, error-is, error_for, halt_for, halt-is, halted-as, halted-refused, neither, numbers-of, numbers-refused, refused-as, refused-neither, same-error}
+use Rattle.arn_session.proofs.OpenLemmas.{Told-opened, left-shut, never-opened, rest-log, rests-opened, log-is-none, not-opened, for-any, never-begun, took-none, unopened, with-never, told-both}
+use Rattle.arn_session.proofs.SparedLemmas.{touched-none, untouched}
+use Rattle.arn_session.proofs.StatusLemmas.{alike, blames-log, broken-is, error-is, error_for, neither, numbers-refused, refused-as, refused-neither, same-error}
+use Rattle.arn_session.proofs.ToldLemmas.{scene-same, told-done, told-halted, told-same}
 use Rattle.arn_session.proofs.session.arnold.Goals as goal
 
 pub answers_are_of_runs-requires : goal.answers_are_of_runs-requires
@@ -290,185 +285,107 @@ returns-in-Err-NoMemory g c = record {
 }
 
 pub returns-in-Ok-answer_in_slots : goal.returns-in-Ok-answer_in_slots
-returns-in-Ok-answer_in_slots g c = record {
-  usage = λ is. absurd (alike status.Done status.Usage is);
-  unaccepted = λ not. absurd (not c.in-None.ensures.none);
-  unread = λ not. absurd (not c.in-None.ensures.none);
-  undisturbed = λ not. absurd (not c.in-None.ensures.none);
-  read = λ is. ok-at c.answer_in_slots.result _ _ c.in-Ok-answer_in_slots.is c.answer_in_slots.ensures.leaves.read;
-  answered = λ is history log.
-      rw (c.chooser-1.given.1 (sym c.answer_in_slots.ensures.same.chooser), c.devices-1.given.1 (sym c.answer_in_slots.ensures.slots), c.disk-1.given.1 (sym c.answer_in_slots.ensures.same.disk), c.sink-1.given.1 (sym c.answer_in_slots.ensures.same.sink), c.steps-1.given.1 (sym c.answer_in_slots.ensures.same.steps)) (
-      Answers-opened g.D.Disk _ (given told (is_filled c.args.devices.now.items)) c.openings_follow.ensures.behind c.halts_follow.ensures.behind c.args.disk.now c.open_log.new.disk c.answer_in_slots.new.outside.disk.now
-      (g.K.Sink.holds c.args.sink.now) (g.K.Sink.holds c.answer_in_slots.new.outside.sink.now) _ _ c.in-Ok.store.entries
-      (c.openings_follow.ensures.carries c.args.disk.now c.open_log.new.disk c.in-Ok.store (g.K.Sink.holds c.args.sink.now) c.in-Ok.ensures.later.tells c.in-Ok.ensures.left c.in-Ok.ensures.durable c.in-Ok.ensures.any_moment c.in-Ok.ensures.shut)
-      history (c.openings_follow.ensures.history c.args.disk.now history c.in-Ok.store log c.in-Ok.ensures.recovered)
-      (g.S.Source.left c.args.source.now) (ok-at c.answer_in_slots.result _ _ c.in-Ok-answer_in_slots.is c.answer_in_slots.ensures.leaves.answered));
-  short = λ is. ok-at c.answer_in_slots.result _ _ c.in-Ok-answer_in_slots.is c.answer_in_slots.ensures.leaves.short;
-  source = λ is. absurd (alike status.Done status.Source is);
-  sink = λ is. absurd (alike status.Done status.Sink is);
-  disk = λ is. absurd (alike status.Done status.Disk is);
-  early = λ is. absurd (alike status.Done status.Source is);
-  cut = λ is. absurd (alike status.Done status.Sink is);
-  stopped = λ is. absurd (alike status.Done status.Disk is);
-  full = λ log payload is. absurd (alike status.Done (status.Full log payload) is);
-  begun = λ is. absurd (alike status.Done status.NoMemory is);
-  refused = λ error blames is. absurd (blames-log error status.Done blames is);
-  untouched = not-opened _ (g.D.Disk.image c.args.disk.now) c.in-Ok.store.entries c.in-Ok.ensures.recovered c.in-Ok.ensures.short;
-  opened = told-both (g.D.Disk.image c.args.disk.now) c.in-Ok.store.entries status.Done c.in-Ok.ensures.recovered c.in-Ok.ensures.short;
-  broken = λ place is. absurd (alike status.Done (status.Damaged (damage.Broken place)) is);
-  stands = λ begun history log.
-      subst (λ (h : List Record). first_broken h ≡ None) (c.openings_follow.ensures.history c.args.disk.now history c.in-Ok.store log c.in-Ok.ensures.recovered)
-      (subst (λ (h : List Record). first_broken h ≡ None) c.entries.ensures c.in-Ok-new.ensures.known.indexed.stands);
-  unbegun = λ place is. absurd (alike status.Done (status.Damaged (damage.Broken place)) is);
-  keeps = λ place is. absurd (alike status.Done (status.Damaged (damage.Broken place)) is);
-  differs = λ d is. absurd (alike status.Done (status.Damaged (damage.Differs d)) is);
-  long = λ is. absurd (alike status.Done status.Long is);
-  taken = λ which. absurd (neither status.Done status.Source status.Long (λ no. no) (λ no. no) which);
-  slots = rw (c.devices-1.given.1 (sym c.answer_in_slots.ensures.slots)) (
-      c.answer_in_slots.ensures.leaves.touched.were);
-  gone = λ history log.
-      rw (c.devices-1.given.1 (sym c.answer_in_slots.ensures.slots)) (
-      spared-same c.in-Ok.store.entries history (c.openings_follow.ensures.history c.args.disk.now history c.in-Ok.store log c.in-Ok.ensures.recovered) c.answer_in_slots.ensures.leaves.touched);
-  any_moment = λ history was.
-      rw (c.disk-1.given.1 (sym c.answer_in_slots.ensures.same.disk)) (
-      c.openings_follow.ensures.leaves_behind c.args.disk.now c.open_log.new.disk c.answer_in_slots.new.outside.disk.now c.in-Ok.store.entries history (g.K.Sink.holds c.args.sink.now)
-      (c.openings_follow.ensures.history c.args.disk.now history c.in-Ok.store (rest-log g.D.Disk c.args.disk.now history was) c.in-Ok.ensures.recovered)
-      (c.openings_follow.ensures.carries c.args.disk.now c.open_log.new.disk c.in-Ok.store (g.K.Sink.holds c.args.sink.now) c.in-Ok.ensures.later.tells c.in-Ok.ensures.left c.in-Ok.ensures.durable c.in-Ok.ensures.any_moment c.in-Ok.ensures.shut)
-      c.in-Ok.ensures.any_moment c.answer_in_slots.ensures.leaves.any_moment was);
-  rests = λ not_disk not_memory history was.
-      rw (c.disk-1.given.1 (sym c.answer_in_slots.ensures.same.disk)) (
-      c.openings_follow.ensures.rests_behind c.args.disk.now c.open_log.new.disk c.answer_in_slots.new.outside.disk.now c.in-Ok.store.entries history (g.K.Sink.holds c.args.sink.now)
-      (c.openings_follow.ensures.history c.args.disk.now history c.in-Ok.store (rest-log g.D.Disk c.args.disk.now history was) c.in-Ok.ensures.recovered)
-      (c.openings_follow.ensures.carries c.args.disk.now c.open_log.new.disk c.in-Ok.store (g.K.Sink.holds c.args.sink.now) c.in-Ok.ensures.later.tells c.in-Ok.ensures.left c.in-Ok.ensures.durable c.in-Ok.ensures.any_moment c.in-Ok.ensures.shut)
-      (ok-at c.answer_in_slots.result _ _ c.in-Ok-answer_in_slots.is c.answer_in_slots.ensures.leaves.rests) was);
-  shut = λ has.
-      rw (c.disk-1.given.1 (sym c.answer_in_slots.ensures.same.disk)) (
-      (ok-at c.answer_in_slots.result _ _ c.in-Ok-answer_in_slots.is c.answer_in_slots.ensures.leaves.shuts)
-      (left-shut g.D.Disk c.open_log.new.disk c.in-Ok.store c.in-Ok.ensures.left));
-  at_most = c.answer_in_slots.ensures.leaves.at_most;
-  numbers = tt;
-  later = rw (c.disk-1.given.1 (sym c.answer_in_slots.ensures.same.disk)) (
-      goes-both g.D.Disk.image g.D.Disk.faults c.args.disk.now c.open_log.new.disk c.answer_in_slots.new.outside.disk.now c.open_log.ensures.later c.answer_in_slots.ensures.leaves.later);
-  lineage = c.answers_are_of_runs.ensures.text;
-  sinks = c.answers_are_of_runs.ensures.sinks;
-  generated = c.answers_are_of_runs.ensures.generated;
-  undamaged = c.answers_are_of_runs.ensures.undamaged;
-  verify = c.answers_are_of_runs.ensures.verify;
-}
+returns-in-Ok-answer_in_slots g c =
+    let same : (history : List Record) → HoldsLog g.D.Disk c.args.disk.now history → c.in-Ok.store.entries ≡ history = λ history log. c.openings_follow.ensures.history c.args.disk.now history c.in-Ok.store log c.in-Ok.ensures.recovered in
+    let lent = scene-same (c.disk-1.given.1 (sym c.answer_in_slots.ensures.same.disk)) (c.sink-1.given.1 (sym c.answer_in_slots.ensures.same.sink)) (c.chooser-1.given.1 (sym c.answer_in_slots.ensures.same.chooser)) (c.devices-1.given.1 (sym c.answer_in_slots.ensures.slots)) (c.steps-1.given.1 (sym c.answer_in_slots.ensures.same.steps)) g.K.Sink.holds g.K.Sink.faults (λ x. (goal.Chooser-dyn g (x.vtable, x.value)).choices x.value) (λ v. v.items) (g.S.Source.left c.answer_in_slots.new.source) (g.S.Source.faults c.answer_in_slots.new.source) in
+    let at = λ (history : List Record) (is : c.in-Ok.store.entries ≡ history). told-same lent (
+    Told-opened g.D.Disk _ (given told (is_filled c.args.devices.now.items)) c.openings_follow.ensures.behind c.halts_follow.ensures.behind c.args.disk.now c.open_log.new.disk c.answer_in_slots.new.outside.disk.now
+    (g.K.Sink.holds c.args.sink.now) (g.K.Sink.holds c.answer_in_slots.new.outside.sink.now) _ _ c.in-Ok.store.entries
+    (c.openings_follow.ensures.carries c.args.disk.now c.open_log.new.disk c.in-Ok.store (g.K.Sink.holds c.args.sink.now) c.in-Ok.ensures.later.tells c.in-Ok.ensures.left c.in-Ok.ensures.durable c.in-Ok.ensures.any_moment c.in-Ok.ensures.shut)
+    c.openings_follow.ensures.leaves_behind c.openings_follow.ensures.rests_behind c.in-Ok.ensures.any_moment c.open_log.ensures.later history is
+    (told-done c.answer_in_slots.ensures.leaves (left-shut g.D.Disk c.open_log.new.disk c.in-Ok.store c.in-Ok.ensures.left) c.in-Ok-answer_in_slots.field-0 c.in-Ok-answer_in_slots.is)) in
+    let own = at c.in-Ok.store.entries refl in
+    let of = λ (history : List Record) (log : HoldsLog g.D.Disk c.args.disk.now history). at history (same history log) in
+    record {
+      usage = λ is accepted. own.usage is;
+      unaccepted = λ not. absurd (not c.in-None.ensures.none);
+      unread = λ not. absurd (not c.in-None.ensures.none);
+      undisturbed = λ not. absurd (not c.in-None.ensures.none);
+      read = own.read;
+      answered = λ is history log. (of history log).answered is;
+      short = own.short;
+      source = own.source;
+      sink = own.sink;
+      disk = own.disk;
+      early = own.early;
+      cut = λ is history log. (of history log).cut is;
+      stopped = λ is history log. inr ((of history log).stopped is);
+      full = λ at payload is history log. (of history log).full at payload is;
+      begun = λ is history log. inr ((of history log).begun is);
+      refused = λ error blames is. absurd (own.refused error blames is);
+      untouched = not-opened _ (g.D.Disk.image c.args.disk.now) c.in-Ok.store.entries c.in-Ok.ensures.recovered c.in-Ok.ensures.short;
+      opened = told-both (g.D.Disk.image c.args.disk.now) c.in-Ok.store.entries status.Done c.in-Ok.ensures.recovered c.in-Ok.ensures.short;
+      broken = λ place is. absurd (own.broken place is);
+      stands = λ begun history log. subst (λ (h : List Record). first_broken h ≡ None) (same history log) (subst (λ (h : List Record). first_broken h ≡ None) c.entries.ensures c.in-Ok-new.ensures.known.indexed.stands);
+      unbegun = λ place is. absurd (own.broken place is);
+      keeps = λ place is. absurd (own.broken place is);
+      differs = λ d is history log. (of history log).differs d is;
+      long = own.long;
+      taken = λ which history log. (of history log).taken which;
+      slots = own.touched.were;
+      gone = λ history log. (of history log).touched;
+      any_moment = λ history was. (of history (rest-log g.D.Disk c.args.disk.now history was)).any_moment was;
+      rests = λ not_disk not_memory history was. (of history (rest-log g.D.Disk c.args.disk.now history was)).rests not_disk not_memory was;
+      shut = own.shut;
+      at_most = own.at_most;
+      numbers = own.numbers;
+      later = own.later;
+      lineage = c.answers_are_of_runs.ensures.text;
+      sinks = c.answers_are_of_runs.ensures.sinks;
+      generated = c.answers_are_of_runs.ensures.generated;
+      undamaged = c.answers_are_of_runs.ensures.undamaged;
+      verify = c.answers_are_of_runs.ensures.verify;
+    }
 
 pub returns : goal.returns
-returns g c = record {
-  usage = λ is. absurd (halted-as c.in-Err-answer_in_slots.halt c.from-in-Err-answer_in_slots.result status.Usage c.from-in-Err-answer_in_slots.ensures is);
-  unaccepted = λ not. absurd (not c.in-None.ensures.none);
-  unread = λ not. absurd (not c.in-None.ensures.none);
-  undisturbed = λ not. absurd (not c.in-None.ensures.none);
-  read = λ is. absurd (halted-as c.in-Err-answer_in_slots.halt c.from-in-Err-answer_in_slots.result status.Done c.from-in-Err-answer_in_slots.ensures is);
-  answered = λ is. absurd (halted-as c.in-Err-answer_in_slots.halt c.from-in-Err-answer_in_slots.result status.Done c.from-in-Err-answer_in_slots.ensures is);
-  short = λ is. absurd (halted-as c.in-Err-answer_in_slots.halt c.from-in-Err-answer_in_slots.result status.Done c.from-in-Err-answer_in_slots.ensures is);
-  source = λ is. c.answer_in_slots.ensures.leaves.source (c.in-Err-answer_in_slots.is ∙ ap (λ (x : Halt). Err x) (halt-is c.in-Err-answer_in_slots.halt c.from-in-Err-answer_in_slots.result halt.Source c.from-in-Err-answer_in_slots.ensures (ap halt_for is)));
-  sink = λ is.
-      rw (c.sink-1.given.1 (sym c.answer_in_slots.ensures.same.sink)) (
-      c.answer_in_slots.ensures.leaves.sink (c.in-Err-answer_in_slots.is ∙ ap (λ (x : Halt). Err x) (halt-is c.in-Err-answer_in_slots.halt c.from-in-Err-answer_in_slots.result halt.Sink c.from-in-Err-answer_in_slots.ensures (ap halt_for is))));
-  disk = λ is.
-      rw (c.disk-1.given.1 (sym c.answer_in_slots.ensures.same.disk)) (
-      Rose-after _ _ _ c.in-Ok.ensures.later.never_falls c.answer_in_slots.ensures.leaves.later.never_falls (c.answer_in_slots.ensures.leaves.disk (c.in-Err-answer_in_slots.is ∙ ap (λ (x : Halt). Err x) (halt-is c.in-Err-answer_in_slots.halt c.from-in-Err-answer_in_slots.result halt.Disk c.from-in-Err-answer_in_slots.ensures (ap halt_for is)))));
-  early = λ is. c.answer_in_slots.ensures.leaves.early (c.in-Err-answer_in_slots.is ∙ ap (λ (x : Halt). Err x) (halt-is c.in-Err-answer_in_slots.halt c.from-in-Err-answer_in_slots.result halt.Source c.from-in-Err-answer_in_slots.ensures (ap halt_for is)));
-  cut = λ is history log.
-      rw (c.chooser-1.given.1 (sym c.answer_in_slots.ensures.same.chooser), c.devices-1.given.1 (sym c.answer_in_slots.ensures.slots), c.disk-1.given.1 (sym c.answer_in_slots.ensures.same.disk), c.sink-1.given.1 (sym c.answer_in_slots.ensures.same.sink), c.steps-1.given.1 (sym c.answer_in_slots.ensures.same.steps)) (
-      Begins-opened g.D.Disk _ (given told (is_filled c.args.devices.now.items)) c.openings_follow.ensures.behind c.halts_follow.ensures.behind c.args.disk.now c.open_log.new.disk c.answer_in_slots.new.outside.disk.now
-      (g.K.Sink.holds c.args.sink.now) (g.K.Sink.holds c.answer_in_slots.new.outside.sink.now) _ _ c.in-Ok.store.entries
-      (c.openings_follow.ensures.carries c.args.disk.now c.open_log.new.disk c.in-Ok.store (g.K.Sink.holds c.args.sink.now) c.in-Ok.ensures.later.tells c.in-Ok.ensures.left c.in-Ok.ensures.durable c.in-Ok.ensures.any_moment c.in-Ok.ensures.shut)
-      history (c.openings_follow.ensures.history c.args.disk.now history c.in-Ok.store log c.in-Ok.ensures.recovered)
-      c.in-Err-answer_in_slots.halt halt.Sink (halt-is c.in-Err-answer_in_slots.halt c.from-in-Err-answer_in_slots.result halt.Sink c.from-in-Err-answer_in_slots.ensures (ap halt_for is))
-      (λ e. cc) (λ e. cc) (g.S.Source.left c.args.source.now) (g.S.Source.left c.answer_in_slots.new.source) (err-at c.answer_in_slots.result _ c.in-Err-answer_in_slots.halt c.in-Err-answer_in_slots.is c.answer_in_slots.ensures.leaves.stops));
-  stopped = λ is history log.
-      rw (c.chooser-1.given.1 (sym c.answer_in_slots.ensures.same.chooser), c.devices-1.given.1 (sym c.answer_in_slots.ensures.slots), c.disk-1.given.1 (sym c.answer_in_slots.ensures.same.disk), c.sink-1.given.1 (sym c.answer_in_slots.ensures.same.sink), c.steps-1.given.1 (sym c.answer_in_slots.ensures.same.steps)) (
-      inr (
-      Begins-opened g.D.Disk _ (given told (is_filled c.args.devices.now.items)) c.openings_follow.ensures.behind c.halts_follow.ensures.behind c.args.disk.now c.open_log.new.disk c.answer_in_slots.new.outside.disk.now
-      (g.K.Sink.holds c.args.sink.now) (g.K.Sink.holds c.answer_in_slots.new.outside.sink.now) _ _ c.in-Ok.store.entries
-      (c.openings_follow.ensures.carries c.args.disk.now c.open_log.new.disk c.in-Ok.store (g.K.Sink.holds c.args.sink.now) c.in-Ok.ensures.later.tells c.in-Ok.ensures.left c.in-Ok.ensures.durable c.in-Ok.ensures.any_moment c.in-Ok.ensures.shut)
-      history (c.openings_follow.ensures.history c.args.disk.now history c.in-Ok.store log c.in-Ok.ensures.recovered)
-      c.in-Err-answer_in_slots.halt halt.Disk (halt-is c.in-Err-answer_in_slots.halt c.from-in-Err-answer_in_slots.result halt.Disk c.from-in-Err-answer_in_slots.ensures (ap halt_for is))
-      (λ e. cc) (λ e. cc) (g.S.Source.left c.args.source.now) (g.S.Source.left c.answer_in_slots.new.source) (err-at c.answer_in_slots.result _ c.in-Err-answer_in_slots.halt c.in-Err-answer_in_slots.is c.answer_in_slots.ensures.leaves.stops)));
-  full = λ at payload is history log.
-      rw (c.chooser-1.given.1 (sym c.answer_in_slots.ensures.same.chooser), c.devices-1.given.1 (sym c.answer_in_slots.ensures.slots), c.disk-1.given.1 (sym c.answer_in_slots.ensures.same.disk), c.sink-1.given.1 (sym c.answer_in_slots.ensures.same.sink), c.steps-1.given.1 (sym c.answer_in_slots.ensures.same.steps)) (
-      Begins-opened g.D.Disk _ (given told (is_filled c.args.devices.now.items)) c.openings_follow.ensures.behind c.halts_follow.ensures.behind c.args.disk.now c.open_log.new.disk c.answer_in_slots.new.outside.disk.now
-      (g.K.Sink.holds c.args.sink.now) (g.K.Sink.holds c.answer_in_slots.new.outside.sink.now) _ _ c.in-Ok.store.entries
-      (c.openings_follow.ensures.carries c.args.disk.now c.open_log.new.disk c.in-Ok.store (g.K.Sink.holds c.args.sink.now) c.in-Ok.ensures.later.tells c.in-Ok.ensures.left c.in-Ok.ensures.durable c.in-Ok.ensures.any_moment c.in-Ok.ensures.shut)
-      history (c.openings_follow.ensures.history c.args.disk.now history c.in-Ok.store log c.in-Ok.ensures.recovered)
-      c.in-Err-answer_in_slots.halt (halt.Full at payload) (halt-is c.in-Err-answer_in_slots.halt c.from-in-Err-answer_in_slots.result (halt.Full at payload) c.from-in-Err-answer_in_slots.ensures (ap halt_for is))
-      (λ e. cc) (λ e. cc) (g.S.Source.left c.args.source.now) (g.S.Source.left c.answer_in_slots.new.source) (err-at c.answer_in_slots.result _ c.in-Err-answer_in_slots.halt c.in-Err-answer_in_slots.is c.answer_in_slots.ensures.leaves.stops));
-  begun = λ is history log.
-      rw (c.chooser-1.given.1 (sym c.answer_in_slots.ensures.same.chooser), c.devices-1.given.1 (sym c.answer_in_slots.ensures.slots), c.disk-1.given.1 (sym c.answer_in_slots.ensures.same.disk), c.sink-1.given.1 (sym c.answer_in_slots.ensures.same.sink), c.steps-1.given.1 (sym c.answer_in_slots.ensures.same.steps)) (
-      inr (
-      Begins-opened g.D.Disk _ (given told (is_filled c.args.devices.now.items)) c.openings_follow.ensures.behind c.halts_follow.ensures.behind c.args.disk.now c.open_log.new.disk c.answer_in_slots.new.outside.disk.now
-      (g.K.Sink.holds c.args.sink.now) (g.K.Sink.holds c.answer_in_slots.new.outside.sink.now) _ _ c.in-Ok.store.entries
-      (c.openings_follow.ensures.carries c.args.disk.now c.open_log.new.disk c.in-Ok.store (g.K.Sink.holds c.args.sink.now) c.in-Ok.ensures.later.tells c.in-Ok.ensures.left c.in-Ok.ensures.durable c.in-Ok.ensures.any_moment c.in-Ok.ensures.shut)
-      history (c.openings_follow.ensures.history c.args.disk.now history c.in-Ok.store log c.in-Ok.ensures.recovered)
-      c.in-Err-answer_in_slots.halt halt.NoMemory (halt-is c.in-Err-answer_in_slots.halt c.from-in-Err-answer_in_slots.result halt.NoMemory c.from-in-Err-answer_in_slots.ensures (ap halt_for is))
-      (λ e. cc) (λ e. cc) (g.S.Source.left c.args.source.now) (g.S.Source.left c.answer_in_slots.new.source) (err-at c.answer_in_slots.result _ c.in-Err-answer_in_slots.halt c.in-Err-answer_in_slots.is c.answer_in_slots.ensures.leaves.stops)));
-  refused = λ error blames is. absurd (halted-refused c.in-Err-answer_in_slots.halt error c.from-in-Err-answer_in_slots.result c.from-in-Err-answer_in_slots.ensures blames is);
-  untouched = not-opened _ (g.D.Disk.image c.args.disk.now) c.in-Ok.store.entries c.in-Ok.ensures.recovered c.in-Ok.ensures.short;
-  opened = told-both (g.D.Disk.image c.args.disk.now) c.in-Ok.store.entries c.from-in-Err-answer_in_slots.result c.in-Ok.ensures.recovered c.in-Ok.ensures.short;
-  broken = λ place is. absurd (halted-as c.in-Err-answer_in_slots.halt c.from-in-Err-answer_in_slots.result (status.Damaged (damage.Broken place)) c.from-in-Err-answer_in_slots.ensures is);
-  stands = λ begun history log.
-      subst (λ (h : List Record). first_broken h ≡ None) (c.openings_follow.ensures.history c.args.disk.now history c.in-Ok.store log c.in-Ok.ensures.recovered)
-      (subst (λ (h : List Record). first_broken h ≡ None) c.entries.ensures c.in-Ok-new.ensures.known.indexed.stands);
-  unbegun = λ place is. absurd (halted-as c.in-Err-answer_in_slots.halt c.from-in-Err-answer_in_slots.result (status.Damaged (damage.Broken place)) c.from-in-Err-answer_in_slots.ensures is);
-  keeps = λ place is. absurd (halted-as c.in-Err-answer_in_slots.halt c.from-in-Err-answer_in_slots.result (status.Damaged (damage.Broken place)) c.from-in-Err-answer_in_slots.ensures is);
-  differs = λ d is history log.
-      let why : c.in-Err-answer_in_slots.halt ≡ halt.Differs d = (halt-is c.in-Err-answer_in_slots.halt c.from-in-Err-answer_in_slots.result (halt.Differs d) c.from-in-Err-answer_in_slots.ensures (ap halt_for is)) in
-      let err = c.in-Err-answer_in_slots.is ∙ ap (λ (x : Halt). Err x) why in
-      rw (c.chooser-1.given.1 (sym c.answer_in_slots.ensures.same.chooser), c.devices-1.given.1 (sym c.answer_in_slots.ensures.slots), c.disk-1.given.1 (sym c.answer_in_slots.ensures.same.disk), c.sink-1.given.1 (sym c.answer_in_slots.ensures.same.sink), c.steps-1.given.1 (sym c.answer_in_slots.ensures.same.steps)) ((
-        subst (λ h. IsNoRun h d) (c.openings_follow.ensures.history c.args.disk.now history c.in-Ok.store log c.in-Ok.ensures.recovered) (c.answer_in_slots.ensures.leaves.blames d err),
-        Finds-opened g.D.Disk _ (given told (is_filled c.args.devices.now.items)) c.openings_follow.ensures.behind c.halts_follow.ensures.behind c.args.disk.now c.open_log.new.disk c.answer_in_slots.new.outside.disk.now
-            (g.K.Sink.holds c.args.sink.now) (g.K.Sink.holds c.answer_in_slots.new.outside.sink.now) _ _ c.in-Ok.store.entries
-            (c.openings_follow.ensures.carries c.args.disk.now c.open_log.new.disk c.in-Ok.store (g.K.Sink.holds c.args.sink.now) c.in-Ok.ensures.later.tells c.in-Ok.ensures.left c.in-Ok.ensures.durable c.in-Ok.ensures.any_moment c.in-Ok.ensures.shut)
-            history (c.openings_follow.ensures.history c.args.disk.now history c.in-Ok.store log c.in-Ok.ensures.recovered)
-            (g.S.Source.left c.args.source.now) (g.S.Source.left c.answer_in_slots.new.source) (c.answer_in_slots.ensures.leaves.finds d err),
-      ));
-  long = λ is. c.answer_in_slots.ensures.leaves.long (c.in-Err-answer_in_slots.is ∙ ap (λ (x : Halt). Err x) (halt-is c.in-Err-answer_in_slots.halt c.from-in-Err-answer_in_slots.result halt.Long c.from-in-Err-answer_in_slots.ensures (ap halt_for is)));
-  taken = λ which history log.
-      rw (c.chooser-1.given.1 (sym c.answer_in_slots.ensures.same.chooser), c.devices-1.given.1 (sym c.answer_in_slots.ensures.slots), c.disk-1.given.1 (sym c.answer_in_slots.ensures.same.disk), c.sink-1.given.1 (sym c.answer_in_slots.ensures.same.sink), c.steps-1.given.1 (sym c.answer_in_slots.ensures.same.steps)) (
-      Taken-opened g.D.Disk _ (given told (is_filled c.args.devices.now.items)) c.openings_follow.ensures.behind c.halts_follow.ensures.behind c.args.disk.now c.open_log.new.disk c.answer_in_slots.new.outside.disk.now
-      (g.K.Sink.holds c.args.sink.now) (g.K.Sink.holds c.answer_in_slots.new.outside.sink.now) _ _ c.in-Ok.store.entries
-      (c.openings_follow.ensures.carries c.args.disk.now c.open_log.new.disk c.in-Ok.store (g.K.Sink.holds c.args.sink.now) c.in-Ok.ensures.later.tells c.in-Ok.ensures.left c.in-Ok.ensures.durable c.in-Ok.ensures.any_moment c.in-Ok.ensures.shut)
-      history (c.openings_follow.ensures.history c.args.disk.now history c.in-Ok.store log c.in-Ok.ensures.recovered)
-      (g.S.Source.left c.args.source.now) (g.S.Source.left c.answer_in_slots.new.source) whole_parts
-      (c.answer_in_slots.ensures.leaves.taken (elim which [
-        | inl is ↦ inl (c.in-Err-answer_in_slots.is ∙ ap (λ (x : Halt). Err x) (halt-is c.in-Err-answer_in_slots.halt c.from-in-Err-answer_in_slots.result halt.Source c.from-in-Err-answer_in_slots.ensures (ap halt_for is)))
-        | inr is ↦ inr (c.in-Err-answer_in_slots.is ∙ ap (λ (x : Halt). Err x) (halt-is c.in-Err-answer_in_slots.halt c.from-in-Err-answer_in_slots.result halt.Long c.from-in-Err-answer_in_slots.ensures (ap halt_for is)))
-      ])));
-  slots = rw (c.devices-1.given.1 (sym c.answer_in_slots.ensures.slots)) (
-      c.answer_in_slots.ensures.leaves.touched.were);
-  gone = λ history log.
-      rw (c.devices-1.given.1 (sym c.answer_in_slots.ensures.slots)) (
-      spared-same c.in-Ok.store.entries history (c.openings_follow.ensures.history c.args.disk.now history c.in-Ok.store log c.in-Ok.ensures.recovered) c.answer_in_slots.ensures.leaves.touched);
-  any_moment = λ history was.
-      rw (c.disk-1.given.1 (sym c.answer_in_slots.ensures.same.disk)) (
-      c.openings_follow.ensures.leaves_behind c.args.disk.now c.open_log.new.disk c.answer_in_slots.new.outside.disk.now c.in-Ok.store.entries history (g.K.Sink.holds c.args.sink.now)
-      (c.openings_follow.ensures.history c.args.disk.now history c.in-Ok.store (rest-log g.D.Disk c.args.disk.now history was) c.in-Ok.ensures.recovered)
-      (c.openings_follow.ensures.carries c.args.disk.now c.open_log.new.disk c.in-Ok.store (g.K.Sink.holds c.args.sink.now) c.in-Ok.ensures.later.tells c.in-Ok.ensures.left c.in-Ok.ensures.durable c.in-Ok.ensures.any_moment c.in-Ok.ensures.shut)
-      c.in-Ok.ensures.any_moment c.answer_in_slots.ensures.leaves.any_moment was);
-  rests = λ not_disk not_memory history was.
-      rw (c.disk-1.given.1 (sym c.answer_in_slots.ensures.same.disk)) (
-      c.openings_follow.ensures.rests_behind c.args.disk.now c.open_log.new.disk c.answer_in_slots.new.outside.disk.now c.in-Ok.store.entries history (g.K.Sink.holds c.args.sink.now)
-      (c.openings_follow.ensures.history c.args.disk.now history c.in-Ok.store (rest-log g.D.Disk c.args.disk.now history was) c.in-Ok.ensures.recovered)
-      (c.openings_follow.ensures.carries c.args.disk.now c.open_log.new.disk c.in-Ok.store (g.K.Sink.holds c.args.sink.now) c.in-Ok.ensures.later.tells c.in-Ok.ensures.left c.in-Ok.ensures.durable c.in-Ok.ensures.any_moment c.in-Ok.ensures.shut)
-      ((err-at c.answer_in_slots.result _ c.in-Err-answer_in_slots.halt c.in-Err-answer_in_slots.is c.answer_in_slots.ensures.leaves.still_rests) (λ is. not_disk (c.from-in-Err-answer_in_slots.ensures ∙ ap status_of is)) (λ is. not_memory (c.from-in-Err-answer_in_slots.ensures ∙ ap status_of is))) was);
-  shut = λ has.
-      rw (c.disk-1.given.1 (sym c.answer_in_slots.ensures.same.disk)) (
-      (err-at c.answer_in_slots.result _ c.in-Err-answer_in_slots.halt c.in-Err-answer_in_slots.is c.answer_in_slots.ensures.leaves.still_shuts)
-      (λ is. subst HasOpened (c.from-in-Err-answer_in_slots.ensures ∙ ap status_of is) has)
-      (λ is. subst HasOpened (c.from-in-Err-answer_in_slots.ensures ∙ ap status_of is) has)
-      (left-shut g.D.Disk c.open_log.new.disk c.in-Ok.store c.in-Ok.ensures.left));
-  at_most = c.answer_in_slots.ensures.leaves.at_most;
-  numbers = numbers-of c.in-Err-answer_in_slots.halt c.from-in-Err-answer_in_slots.result c.from-in-Err-answer_in_slots.ensures (λ log payload is. c.answer_in_slots.ensures.leaves.full log payload (c.in-Err-answer_in_slots.is ∙ ap (λ (x : Halt). Err x) is));
-  later = rw (c.disk-1.given.1 (sym c.answer_in_slots.ensures.same.disk)) (
-      goes-both g.D.Disk.image g.D.Disk.faults c.args.disk.now c.open_log.new.disk c.answer_in_slots.new.outside.disk.now c.open_log.ensures.later c.answer_in_slots.ensures.leaves.later);
-  lineage = c.answers_are_of_runs.ensures.text;
-  sinks = c.answers_are_of_runs.ensures.sinks;
-  generated = c.answers_are_of_runs.ensures.generated;
-  undamaged = c.answers_are_of_runs.ensures.undamaged;
-  verify = c.answers_are_of_runs.ensures.verify;
-}
+returns g c =
+    let same : (history : List Record) → HoldsLog g.D.Disk c.args.disk.now history → c.in-Ok.store.entries ≡ history = λ history log. c.openings_follow.ensures.history c.args.disk.now history c.in-Ok.store log c.in-Ok.ensures.recovered in
+    let lent = scene-same (c.disk-1.given.1 (sym c.answer_in_slots.ensures.same.disk)) (c.sink-1.given.1 (sym c.answer_in_slots.ensures.same.sink)) (c.chooser-1.given.1 (sym c.answer_in_slots.ensures.same.chooser)) (c.devices-1.given.1 (sym c.answer_in_slots.ensures.slots)) (c.steps-1.given.1 (sym c.answer_in_slots.ensures.same.steps)) g.K.Sink.holds g.K.Sink.faults (λ x. (goal.Chooser-dyn g (x.vtable, x.value)).choices x.value) (λ v. v.items) (g.S.Source.left c.answer_in_slots.new.source) (g.S.Source.faults c.answer_in_slots.new.source) in
+    let at = λ (history : List Record) (is : c.in-Ok.store.entries ≡ history). told-same lent (
+    Told-opened g.D.Disk _ (given told (is_filled c.args.devices.now.items)) c.openings_follow.ensures.behind c.halts_follow.ensures.behind c.args.disk.now c.open_log.new.disk c.answer_in_slots.new.outside.disk.now
+    (g.K.Sink.holds c.args.sink.now) (g.K.Sink.holds c.answer_in_slots.new.outside.sink.now) _ _ c.in-Ok.store.entries
+    (c.openings_follow.ensures.carries c.args.disk.now c.open_log.new.disk c.in-Ok.store (g.K.Sink.holds c.args.sink.now) c.in-Ok.ensures.later.tells c.in-Ok.ensures.left c.in-Ok.ensures.durable c.in-Ok.ensures.any_moment c.in-Ok.ensures.shut)
+    c.openings_follow.ensures.leaves_behind c.openings_follow.ensures.rests_behind c.in-Ok.ensures.any_moment c.open_log.ensures.later history is
+    (told-halted c.answer_in_slots.ensures.leaves (left-shut g.D.Disk c.open_log.new.disk c.in-Ok.store c.in-Ok.ensures.left) c.in-Err-answer_in_slots.halt c.from-in-Err-answer_in_slots.result c.in-Err-answer_in_slots.is c.from-in-Err-answer_in_slots.ensures)) in
+    let own = at c.in-Ok.store.entries refl in
+    let of = λ (history : List Record) (log : HoldsLog g.D.Disk c.args.disk.now history). at history (same history log) in
+    record {
+      usage = λ is accepted. own.usage is;
+      unaccepted = λ not. absurd (not c.in-None.ensures.none);
+      unread = λ not. absurd (not c.in-None.ensures.none);
+      undisturbed = λ not. absurd (not c.in-None.ensures.none);
+      read = own.read;
+      answered = λ is history log. (of history log).answered is;
+      short = own.short;
+      source = own.source;
+      sink = own.sink;
+      disk = own.disk;
+      early = own.early;
+      cut = λ is history log. (of history log).cut is;
+      stopped = λ is history log. inr ((of history log).stopped is);
+      full = λ at payload is history log. (of history log).full at payload is;
+      begun = λ is history log. inr ((of history log).begun is);
+      refused = λ error blames is. absurd (own.refused error blames is);
+      untouched = not-opened _ (g.D.Disk.image c.args.disk.now) c.in-Ok.store.entries c.in-Ok.ensures.recovered c.in-Ok.ensures.short;
+      opened = told-both (g.D.Disk.image c.args.disk.now) c.in-Ok.store.entries c.from-in-Err-answer_in_slots.result c.in-Ok.ensures.recovered c.in-Ok.ensures.short;
+      broken = λ place is. absurd (own.broken place is);
+      stands = λ begun history log. subst (λ (h : List Record). first_broken h ≡ None) (same history log) (subst (λ (h : List Record). first_broken h ≡ None) c.entries.ensures c.in-Ok-new.ensures.known.indexed.stands);
+      unbegun = λ place is. absurd (own.broken place is);
+      keeps = λ place is. absurd (own.broken place is);
+      differs = λ d is history log. (of history log).differs d is;
+      long = own.long;
+      taken = λ which history log. (of history log).taken which;
+      slots = own.touched.were;
+      gone = λ history log. (of history log).touched;
+      any_moment = λ history was. (of history (rest-log g.D.Disk c.args.disk.now history was)).any_moment was;
+      rests = λ not_disk not_memory history was. (of history (rest-log g.D.Disk c.args.disk.now history was)).rests not_disk not_memory was;
+      shut = own.shut;
+      at_most = own.at_most;
+      numbers = own.numbers;
+      later = own.later;
+      lineage = c.answers_are_of_runs.ensures.text;
+      sinks = c.answers_are_of_runs.ensures.sinks;
+      generated = c.answers_are_of_runs.ensures.generated;
+      undamaged = c.answers_are_of_runs.ensures.undamaged;
+      verify = c.answers_are_of_runs.ensures.verify;
+    }
