@@ -33,8 +33,8 @@ pub fn version(
     ensures ok { IfOk result (λ held. version_of entries.now moment name.now ≡ Some held.items) }
     ensures err { IfErr result (LacksVersion (version_of entries.now moment name.now)) }
 {
-    let versions = Versions::build(alloc, entries, index)?;
-    match versions.tagged(name, moment) {
+    let found = Versions::build(alloc, entries, index)?.tagged(name, moment);
+    match found {
         Ok(held) => Ok(held),
         Err(VersionError::NoMoment) => Err(QueryError::NoPoint),
         Err(VersionError::NoFile) => Err(QueryError::NoPoint),
