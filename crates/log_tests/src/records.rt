@@ -78,7 +78,14 @@ fn assert_spelled(
 ) -> Result<(), NoMemory>
     requires { HasSpelling entry }
 {
-    assert_written(rt, alloc, &entry, bytes)?;
+    let written = assert_written(rt, alloc, &entry, bytes);
+    drop(entry);
+    written?;
+    assert_read(rt, alloc, bytes)
+}
+
+// What is read from the bytes has them too.
+fn assert_read(rt: &impl Abort, alloc: Global, bytes: &[u8]) -> Result<(), NoMemory> {
     let read = read_record(rt, alloc, bytes)?;
     assert_written(rt, alloc, &read, bytes)
 }
