@@ -1,12 +1,14 @@
-use Rattle.std.proofs.Common.{◌≡◌, inl, inr, ℕ, ◌++◌, List, Result, Ok, Err, IfOk, sym, subst, arith}
+use Rattle.std.proofs.Common.{◌≡◌, inl, inr, ℕ, ◌++◌, List, [], Result, Ok, Err, IfOk, Contains, length, refl, ap, sym, subst, ◌∙◌, arith}
 use Rattle.std.proofs.lemmas.Result.{IfOk-weaker}
 use Rattle.arn_base.specs.declared.errors.NoMemory.{NoMemory}
 use Rattle.set_store.specs.declared.item.Item.{Item}
-use Rattle.set_store.specs.Sets.{IsUnionOf, members_of}
+use Rattle.set_store.specs.Sets.{IsSet, IsUnionOf, members_of}
 use Rattle.set_store.specs.Tries.{items_of}
-use Rattle.set_store.proofs.Growth.{right-made, stand-same, stand-twice, union-ordered}
+use Rattle.set_store.proofs.Growth.{pair-ordered, right-made, stand-same, stand-twice, union-first, union-ordered, union-second}
 use Rattle.set_store.proofs.Halves.{left-smaller, right-smaller, united-in}
+use Rattle.set_store.proofs.Rising.{none_in}
 use Rattle.set_store.proofs.sets.Sets.+union.Goals as goal
+use Rattle.set_store.proofs.sets.Sets.+union.Goals.{union-then-a-b-via-then-a-b, union-then-a-b-via-else-a-b+then-b-empty}
 
 pub parted-parting-bit-requires-clause-some : goal.parted-parting-bit-requires-clause-some
 parted-parting-bit-requires-clause-some t c = c.requires.some
@@ -132,3 +134,148 @@ pub made-returns-in-Some-clause-members : goal.made-returns-in-Some-clause-membe
 made-returns-in-Some-clause-members t c =
     if-united c.kept.result (λ set. members_of c.kept.new.self set) (items_of c.in-Some.row) (members_of c.args.self.now c.args.pair.0) (members_of c.args.self.now c.args.pair.1)
     c.kept.ensures.members c.in-Some.ensures.row.1
+
+pub union-returns-then-a-b-clause-members : goal.union-returns-then-a-b-clause-members
+union-returns-then-a-b-clause-members t c =
+    let sets = c.args.self.now in
+    let first = members_of sets c.args.a in
+    union-first first (members_of sets c.args.b) (λ item h. elim c.then-a-b.branch [
+      | union-then-a-b-via-then-a-b w ↦ subst (λ set. Contains (members_of sets set) item) (sym w.if-a-b.true) h
+      | union-then-a-b-via-else-a-b+then-b-empty w ↦ absurd (none_in item (subst (λ list. Contains list item) (ap (λ set. members_of sets set) w.if-b-empty.true ∙ c.empty-empty.ensures.empty) h))
+    ])
+
+pub union-returns-then-a-b-clause-before : goal.union-returns-then-a-b-clause-before
+union-returns-then-a-b-clause-before t c = stand-same c.args.self.now c.args.self.now refl
+
+pub union-returns-then-a-b-clause-interned : goal.union-returns-then-a-b-clause-interned
+union-returns-then-a-b-clause-interned t c = c.empty-empty.ensures.interned
+
+pub union-returns-then-a-empty-clause-members : goal.union-returns-then-a-empty-clause-members
+union-returns-then-a-empty-clause-members t c =
+    let sets = c.args.self.now in
+    let none = ap (λ set. members_of sets set) c.if-a-empty.true ∙ c.empty-empty.ensures.empty in
+    union-second (members_of sets c.args.a) (members_of sets c.args.b) (λ item h. absurd (none_in item (subst (λ list. Contains list item) none h)))
+
+pub union-returns-then-a-empty-clause-before : goal.union-returns-then-a-empty-clause-before
+union-returns-then-a-empty-clause-before t c = stand-same c.args.self.now c.args.self.now refl
+
+pub union-returns-then-a-empty-clause-interned : goal.union-returns-then-a-empty-clause-interned
+union-returns-then-a-empty-clause-interned t c = c.empty-empty.ensures.interned
+
+pub union-united-requires : goal.union-united-requires
+union-united-requires t c =
+    let zero = c.empty-empty.ensures.zero in
+    let fits = pair-ordered (length c.args.self.now) c.args.a c.args.b c.min.result c.max.result c.min.ensures c.max.ensures c.requires.first c.requires.second (λ e. c.if-a-empty.false (e ∙ sym zero)) (λ e. c.if-b-empty.false (e ∙ sym zero)) in
+    let d = c.decreases in
+    let sum = fits.0 in
+    (omega arith, (fits.1, (fits.2, (fits.3, fits.4))))
+
+pub union-returns-clause-set : goal.union-returns-clause-set
+union-returns-clause-set t c = c.united.ensures.set
+
+pub union-returns-clause-before : goal.union-returns-clause-before
+union-returns-clause-before t c = c.united.ensures.before
+
+pub union-returns-clause-interned : goal.union-returns-clause-interned
+union-returns-clause-interned t c = c.united.ensures.interned
+
+pub united-found-requires : goal.united-found-requires
+united-found-requires t c = let d = c.decreases in (omega arith, (c.requires.first, (c.requires.second, (c.requires.some, c.requires.other))))
+
+pub united-returns-in-Some-clause-set : goal.united-returns-in-Some-clause-set
+united-returns-in-Some-clause-set t c = c.in-Some.ensures.found.there
+
+pub united-returns-in-Some-clause-members : goal.united-returns-in-Some-clause-members
+united-returns-in-Some-clause-members t c = c.in-Some.ensures.found.members
+
+pub united-returns-in-Some-clause-before : goal.united-returns-in-Some-clause-before
+united-returns-in-Some-clause-before t c = stand-same c.args.self.now c.args.self.now refl
+
+pub united-returns-in-Some-clause-interned : goal.united-returns-in-Some-clause-interned
+united-returns-in-Some-clause-interned t c = c.recent.ensures.interned
+
+pub united-returns-in-None-clause-set : goal.united-returns-in-None-clause-set
+united-returns-in-None-clause-set t c = c.found.ensures.set
+
+pub united-returns-in-None-clause-members : goal.united-returns-in-None-clause-members
+united-returns-in-None-clause-members t c = c.found.ensures.members
+
+pub united-returns-in-None-clause-before : goal.united-returns-in-None-clause-before
+united-returns-in-None-clause-before t c = c.found.ensures.before
+
+pub united-returns-in-None-clause-interned : goal.united-returns-in-None-clause-interned
+united-returns-in-None-clause-interned t c = c.found.ensures.interned
+
+pub found-returns-in-Some-clause-set : goal.found-returns-in-Some-clause-set
+found-returns-in-Some-clause-set t c = c.in-Some.ensures.found.there
+
+pub found-returns-in-Some-clause-before : goal.found-returns-in-Some-clause-before
+found-returns-in-Some-clause-before t c = stand-same c.args.self.now c.recalled.new.self c.recalled.ensures.same
+
+pub found-returns-in-Some-clause-interned : goal.found-returns-in-Some-clause-interned
+found-returns-in-Some-clause-interned t c = c.recalled.ensures.interned
+
+pub found-made-requires : goal.found-made-requires
+found-made-requires t c =
+    let still = stand-same c.args.self.now c.recalled.new.self c.recalled.ensures.same in
+    let d = c.decreases in
+    (omega arith, (still.there c.args.pair.0 c.requires.first, (still.there c.args.pair.1 c.requires.second, (c.requires.some, c.requires.other))))
+
+pub found-returns-in_err-set-clause-before : goal.found-returns-in_err-set-clause-before
+found-returns-in_err-set-clause-before t c = stand-twice c.args.self.now c.recalled.new.self c.made.new.self (stand-same c.args.self.now c.recalled.new.self c.recalled.ensures.same) c.made.ensures.before
+
+pub found-returns-in_err-set-clause-interned : goal.found-returns-in_err-set-clause-interned
+found-returns-in_err-set-clause-interned t c = c.made.ensures.interned
+
+pub found-returns-clause-set : goal.found-returns-clause-set
+found-returns-clause-set t c = subst (λ sets. IsSet sets c.in_ok-set.set) (sym c.remember.ensures.same) c.in_ok-set.ensures.set
+
+pub found-returns-clause-before : goal.found-returns-clause-before
+found-returns-clause-before t c =
+    stand-twice c.args.self.now c.made.new.self c.remember.new.self (stand-twice c.args.self.now c.recalled.new.self c.made.new.self (stand-same c.args.self.now c.recalled.new.self c.recalled.ensures.same) c.made.ensures.before)
+    (stand-same c.made.new.self c.remember.new.self c.remember.ensures.same)
+
+pub found-returns-clause-interned : goal.found-returns-clause-interned
+found-returns-clause-interned t c = c.remember.ensures.interned
+
+pub made-kept-requires : goal.made-kept-requires
+made-kept-requires t c = c.in-Some.ensures.row.0
+
+pub made-parted-requires : goal.made-parted-requires
+made-parted-requires t c = let d = c.decreases in (omega arith, (c.requires.first, (c.requires.second, (c.requires.some, (c.requires.other, (c.node-x.ensures.node, (c.node-y.ensures.node, c.joined.ensures.apart c.in-None.is)))))))
+
+pub made-returns-in-Some-clause-set : goal.made-returns-in-Some-clause-set
+made-returns-in-Some-clause-set t c = c.kept.ensures.set
+
+pub made-returns-in-Some-clause-before : goal.made-returns-in-Some-clause-before
+made-returns-in-Some-clause-before t c = c.kept.ensures.before
+
+pub made-returns-in-Some-clause-interned : goal.made-returns-in-Some-clause-interned
+made-returns-in-Some-clause-interned t c = c.kept.ensures.interned
+
+pub made-returns-in-None-clause-set : goal.made-returns-in-None-clause-set
+made-returns-in-None-clause-set t c = c.parted.ensures.set
+
+pub made-returns-in-None-clause-members : goal.made-returns-in-None-clause-members
+made-returns-in-None-clause-members t c = c.parted.ensures.members
+
+pub made-returns-in-None-clause-before : goal.made-returns-in-None-clause-before
+made-returns-in-None-clause-before t c = c.parted.ensures.before
+
+pub made-returns-in-None-clause-interned : goal.made-returns-in-None-clause-interned
+made-returns-in-None-clause-interned t c = c.parted.ensures.interned
+
+pub parted-returns-in_err-left-clause-before : goal.parted-returns-in_err-left-clause-before
+parted-returns-in_err-left-clause-before t c = c.union.ensures.before
+
+pub parted-returns-in_err-left-clause-interned : goal.parted-returns-in_err-left-clause-interned
+parted-returns-in_err-left-clause-interned t c = c.union.ensures.interned
+
+pub parted-returns-in_err-right-clause-interned : goal.parted-returns-in_err-right-clause-interned
+parted-returns-in_err-right-clause-interned t c = c.union-2.ensures.interned
+
+pub parted-returns-clause-set : goal.parted-returns-clause-set
+parted-returns-clause-set t c = c.forked.ensures.set
+
+pub parted-returns-clause-interned : goal.parted-returns-clause-interned
+parted-returns-clause-interned t c = c.forked.ensures.interned
