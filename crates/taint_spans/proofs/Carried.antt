@@ -86,7 +86,7 @@ pub carried-members : (q : inner.Carried) (span : Span) (base : ℕ) → inner.H
 carried-members q span base has is keeps =
     ap (λ l. l ++ members_from q.into span.first span.len) has.same ∙ ap (λ l. plain.members_of q.from span.base ++ l) (from-carried q span.first span.len keeps is.received)
 
-on-same : (sets : Carried) → CarriesOn sets sets
+pub on-same : (sets : Carried) → CarriesOn sets sets
 on-same sets = record { from = refl; still = λ was is h. h }
 
 pub on-twice : (a b c : Carried) → CarriesOn a b → CarriesOn b c → CarriesOn a c

@@ -157,6 +157,9 @@ alone-at sets alone number = (only, λ e. subst (IsSet (record { sets = sets; sp
 pub plain-before : (sets : plain.Numbered) → plain.StandAsBefore sets sets
 plain-before sets = record { there = λ set h. h; same = λ set h. refl }
 
+pub plain-trans : (old mid new : plain.Numbered) → plain.StandAsBefore old mid → plain.StandAsBefore mid new → plain.StandAsBefore old new
+plain-trans old mid new a b = record { there = λ set h. b.there set (a.there set h); same = λ set h. b.same set (a.there set h) ∙ a.same set h }
+
 -- a plain set is a span without bytes, and a received byte one with it alone
 pub plain-is : (sets : Numbered) (number : ℕ) → is_span number ≡ false → IsSet sets number → number < 2 ^ 32 → IsSpanOf sets number (record { base = number; first = number; len = 0 })
 plain-is sets number e is fits = record {

@@ -104,8 +104,7 @@ impl Carrying {
             return Ok(EMPTY);
         };
         let number = self.carry_anew(set, span)?;
-        remember(&mut self.carried, place, number)?;
-        Ok(number)
+        remember(&mut self.carried, place, number)
     }
 
     /// The same of a span of which no number is remembered: its set is carried over.

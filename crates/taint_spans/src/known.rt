@@ -1,5 +1,5 @@
 // What is remembered by place: a number that isn't 0, or 0 where there is none.
-ghost use Rattle.std.specs.Prelude.{◌≡◌, ◌⊎◌, ◌<◌, ℕ, IfSome, OnOk, length, slice_index};
+ghost use Rattle.std.specs.Prelude.{◌≡◌, ◌⊎◌, ◌<◌, ℕ, IfOk, IfSome, OnOk, length, slice_index};
 
 use arn_base::NoMemory;
 
@@ -23,12 +23,13 @@ fn make_room(numbers: &mut Vec<u32>, place: usize) -> Result<(), NoMemory>
     Ok(())
 }
 
-/// Remembers a number at a place, if there is memory for so many. All else stays.
-pub fn remember(numbers: &mut Vec<u32>, place: usize, number: u32) -> Result<(), NoMemory>
-    ensures { (k : ℕ) → (slice_index numbers.new.items k ≡ slice_index numbers.old.items k)
+/// Remembers a number at a place, if there is memory for so many, and gives it. All else stays.
+pub fn remember(numbers: &mut Vec<u32>, place: usize, number: u32) -> Result<u32, NoMemory>
+    ensures number { IfOk result (λ same. same ≡ number) }
+    ensures kept { (k : ℕ) → (slice_index numbers.new.items k ≡ slice_index numbers.old.items k)
         ⊎ ((k ≡ place) × (slice_index numbers.new.items k ≡ number)) }
 {
     make_room(numbers, place)?;
     numbers[place] = number;
-    Ok(())
+    Ok(number)
 }

@@ -195,8 +195,7 @@ impl SpanSets {
             return Ok(known);
         }
         let settled = settle(&mut self.sets, self.spans.at(place))?;
-        remember(&mut self.settled, place, settled)?;
-        Ok(settled)
+        remember(&mut self.settled, place, settled)
     }
 
     /// The set of all members of two sets, as one that isn't a span.

@@ -2,7 +2,8 @@ use Rattle.std.proofs.Common.{◌≡◌, ◌-◌, ◌+◌, [], slice_index, sym,
 use Rattle.taint_spans.specs.Carried.{Carried, CarriesOn, HasNumber}
 use Rattle.taint_spans.specs.Numbered.{IsSpanOf, first_span, members_of}
 use Rattle.taint_spans.specs.Sound.{carried_of}
-use Rattle.taint_spans.proofs.Carried.{carrying-number, from-span, known-number, none-from}
+use Rattle.taint_spans.proofs.Carried.{carrying-number, from-span, known-number, none-from, on-same}
+use Rattle.taint_spans.proofs.Members.{if-ok}
 use Rattle.taint_spans.proofs.Standing.{no-span, within-spans}
 use Rattle.taint_spans.proofs.carrying.Carrying.carry_span.Goals as goal
 
@@ -37,19 +38,21 @@ pub invariant_of-self : goal.invariant_of-self
 invariant_of-self c =
     let inside = c.self-2.inside in
     let has = subst (λ sets. HasNumber sets c.args.set c.in_ok-number.number) (sym c.self-2.view_is) c.in_ok-number.ensures.number in
-    carrying-number inside.plain inside.from inside.into inside.carried.items c.remember.new.numbers.items c.args.set c.in_ok-number.number (within-spans c.args.set c.requires) has c.remember.ensures c.self-2.invariant
-
-pub returns-in_err-remember-clause-on : goal.returns-in_err-remember-clause-on
-returns-in_err-remember-clause-on c = subst (CarriesOn c.args.self.now) (sym c.self-2.view_is) c.carry_anew.ensures.on
-
-pub invariant_of-self-2 : goal.invariant_of-self-2
-invariant_of-self-2 c =
-    let inside = c.self-2.inside in
-    let has = subst (λ sets. HasNumber sets c.args.set c.in_ok-number.number) (sym c.self-2.view_is) c.in_ok-number.ensures.number in
-    carrying-number inside.plain inside.from inside.into inside.carried.items c.remember.new.numbers.items c.args.set c.in_ok-number.number (within-spans c.args.set c.requires) has c.remember.ensures c.self-2.invariant
+    carrying-number inside.plain inside.from inside.into inside.carried.items c.remember.new.numbers.items c.args.set c.in_ok-number.number (within-spans c.args.set c.requires) has c.remember.ensures.kept c.self-2.invariant
 
 pub returns-clause-number : goal.returns-clause-number
-returns-clause-number c = subst (λ sets. HasNumber sets c.args.set c.in_ok-number.number) (sym c.self-2.view_is) c.in_ok-number.ensures.number
+returns-clause-number c =
+    if-ok c.remember.result _ _ c.remember.ensures.number (λ same e.
+    subst (HasNumber (carried_of c.self-2.inside.plain c.self-2.inside.from c.self-2.inside.into) c.args.set) (sym e) (subst (λ sets. HasNumber sets c.args.set c.in_ok-number.number) (sym c.self-2.view_is) c.in_ok-number.ensures.number))
 
 pub returns-clause-on : goal.returns-clause-on
 returns-clause-on c = subst (CarriesOn c.args.self.now) (sym c.self-2.view_is) c.carry_anew.ensures.on
+
+pub returns-in-Some-clause-on : goal.returns-in-Some-clause-on
+returns-in-Some-clause-on c = on-same c.args.self.now
+
+pub returns-in_default-get-clause-on : goal.returns-in_default-get-clause-on
+returns-in_default-get-clause-on c = on-same c.args.self.now
+
+pub returns-in_err-number-clause-on : goal.returns-in_err-number-clause-on
+returns-in_err-number-clause-on c = c.carry_anew.ensures.on

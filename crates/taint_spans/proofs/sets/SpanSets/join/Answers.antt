@@ -50,3 +50,12 @@ returns-clause-members c =
     subst (λ l. IsUnionOf l (members_of c.args.self.now c.args.first) (members_of c.args.self.now c.args.second))
     (sym (plain-members after number (subst (λ n. is_span n ≡ false) (sym is.0) is.1) ∙ ap (plain.members_of new) is.0))
     (union-like _ _ _ _ _ c.in_ok-unite.ensures.members first second))
+
+pub returns-in_err-first-clause-before : goal.returns-in_err-first-clause-before
+returns-in_err-first-clause-before c = c.settle.ensures.before
+
+pub returns-in_err-second-clause-before : goal.returns-in_err-second-clause-before
+returns-in_err-second-clause-before c = stand-trans c.args.self.now c.settle.new.self c.settle-2.new.self c.settle.ensures.before c.settle-2.ensures.before
+
+pub settle-requires-2 : goal.settle-requires-2
+settle-requires-2 c = c.settle.ensures.before.there c.args.second c.requires.second

@@ -4,8 +4,8 @@ use Rattle.taint_sets.specs.Numbered as plain
 use Rattle.taint_spans.specs.Numbered.{IsSet, Numbered, StandAsBefore, first_span, members_of}
 use Rattle.taint_spans.specs.Sound.{lists_of}
 use Rattle.taint_spans.proofs.Keeping.{known-settled, settled-now, sound-grown, sound-settled}
-use Rattle.taint_spans.proofs.Members.{same-of}
-use Rattle.taint_spans.proofs.Standing.{lists-same, numbered-members, plain-members, set-plain, span-of, stand-both, within-list}
+use Rattle.taint_spans.proofs.Members.{if-ok, same-of}
+use Rattle.taint_spans.proofs.Standing.{lists-same, numbered-members, plain-before, plain-members, set-plain, span-of, stand-both, stand-same, within-list}
 use Rattle.taint_spans.proofs.sets.SpanSets.settle.Goals as goal
 
 pub returns-then-not-is_of_span-clause-set : goal.returns-then-not-is_of_span-clause-set
@@ -61,14 +61,23 @@ invariant_of-self-2 c =
     let is = c.self.invariant.are_spans (c.args.set - first_span) c.at.result c.at.ensures in
     sound-settled new inside.spans inside.settled.items c.remember.new.numbers.items (c.args.set - first_span) c.in_ok-settled.settled c.at.result c.at.ensures
     (settled-now inside.sets new c.at.result c.in_ok-settled.settled c.settle.ensures.before is c.in_ok-settled.ensures.set c.in_ok-settled.ensures.members)
-    c.remember.ensures (sound-grown inside.sets new inside.spans inside.settled.items c.settle.ensures.before c.self.invariant)
+    c.remember.ensures.kept (sound-grown inside.sets new inside.spans inside.settled.items c.settle.ensures.before c.self.invariant)
 
 pub returns-clause-members : goal.returns-clause-members
 returns-clause-members c =
     let inside = c.self.inside in
+    let new = c.settle.new.sets in
     let same = numbered-members inside.sets inside.spans c.args.set c.at.result (sym c.is_of_span.ensures ∙ c.if-not-is_of_span.false) c.at.ensures in
-    subst (λ sets. HaveSame (plain.members_of c.settle.new.sets c.in_ok-settled.settled) (members_of sets c.args.set)) c.self.view_is
-    (subst (HaveSame (plain.members_of c.settle.new.sets c.in_ok-settled.settled)) (sym same) c.in_ok-settled.ensures.members)
+    if-ok c.remember.result _ _ c.remember.ensures.number (λ number e.
+    subst (λ sets. HaveSame (plain.members_of new number) (members_of sets c.args.set)) c.self.view_is
+    (subst (λ n. HaveSame (plain.members_of new n) (members_of (record { sets = inside.sets; spans = lists_of inside.sets inside.spans }) c.args.set)) (sym e)
+    (subst (HaveSame (plain.members_of new c.in_ok-settled.settled)) (sym same) c.in_ok-settled.ensures.members)))
+
+pub returns-clause-set : goal.returns-clause-set
+returns-clause-set c = if-ok c.remember.result _ _ c.remember.ensures.number (λ number e. subst (plain.IsSet c.settle.new.sets) (sym e) c.in_ok-settled.ensures.set)
+
+pub returns-clause-plain : goal.returns-clause-plain
+returns-clause-plain c = subst (λ (sets : Numbered). plain.StandAsBefore sets.sets c.settle.new.sets) c.self.view_is c.settle.ensures.before
 
 pub returns-clause-before : goal.returns-clause-before
 returns-clause-before c =
@@ -78,19 +87,17 @@ returns-clause-before c =
     (stand-both inside.sets c.settle.new.sets (lists_of inside.sets inside.spans) (lists_of c.settle.new.sets inside.spans) c.settle.ensures.before
     (lists-same inside.sets c.settle.new.sets inside.spans c.settle.ensures.before c.self.invariant.are_spans))
 
-pub invariant_of-self-in_err-remember : goal.invariant_of-self-in_err-remember
-invariant_of-self-in_err-remember c =
-    let inside = c.self.inside in
-    let new = c.settle.new.sets in
-    let is = c.self.invariant.are_spans (c.args.set - first_span) c.at.result c.at.ensures in
-    sound-settled new inside.spans inside.settled.items c.remember.new.numbers.items (c.args.set - first_span) c.in_ok-settled.settled c.at.result c.at.ensures
-    (settled-now inside.sets new c.at.result c.in_ok-settled.settled c.settle.ensures.before is c.in_ok-settled.ensures.set c.in_ok-settled.ensures.members)
-    c.remember.ensures (sound-grown inside.sets new inside.spans inside.settled.items c.settle.ensures.before c.self.invariant)
+pub returns-in_err-settled-clause-plain : goal.returns-in_err-settled-clause-plain
+returns-in_err-settled-clause-plain c = subst (λ (sets : Numbered). plain.StandAsBefore sets.sets c.settle.new.sets) c.self.view_is c.settle.ensures.before
 
-pub returns-in_err-remember-clause-before : goal.returns-in_err-remember-clause-before
-returns-in_err-remember-clause-before c =
-    let inside = c.self.inside in
-    let after : Numbered = record { sets = c.settle.new.sets; spans = lists_of c.settle.new.sets inside.spans } in
-    subst (λ sets. StandAsBefore sets after) c.self.view_is
-    (stand-both inside.sets c.settle.new.sets (lists_of inside.sets inside.spans) (lists_of c.settle.new.sets inside.spans) c.settle.ensures.before
-    (lists-same inside.sets c.settle.new.sets inside.spans c.settle.ensures.before c.self.invariant.are_spans))
+pub returns-in-Some-clause-before : goal.returns-in-Some-clause-before
+returns-in-Some-clause-before c = stand-same c.args.self.now
+
+pub returns-in-Some-clause-plain : goal.returns-in-Some-clause-plain
+returns-in-Some-clause-plain c = plain-before c.args.self.now.sets
+
+pub returns-then-not-is_of_span-clause-before : goal.returns-then-not-is_of_span-clause-before
+returns-then-not-is_of_span-clause-before c = stand-same c.args.self.now
+
+pub returns-then-not-is_of_span-clause-plain : goal.returns-then-not-is_of_span-clause-plain
+returns-then-not-is_of_span-clause-plain c = plain-before c.args.self.now.sets
