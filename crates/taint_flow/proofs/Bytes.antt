@@ -31,6 +31,21 @@ added (Ok set) old new start mask byte number named there union = record {
 }
 added (Err e) old new start mask byte number named there union = there
 
+-- nothing comes where the mask lacks the byte, or the set has its members already
+pub added-none : (sets : Numbered) (start mask byte number : ℕ) → has_byte mask byte ≡ false → IsSet sets start → AddsByte sets sets start mask byte number start
+added-none sets start mask byte number lacks there = record {
+  there = there;
+  members = λ item. (λ h. inl h, λ h. elim h [ inl a ↦ a | inr b ↦ absurd (never (sym lacks ∙ b.0)) ]);
+} where
+  never : false ≡ true → ⊥
+  never e = cc
+
+pub added-same : (sets : Numbered) (start mask byte number : ℕ) → Includes sets start number → IsSet sets start → AddsByte sets sets start mask byte number start
+added-same sets start mask byte number has there = record {
+  there = there;
+  members = λ item. (λ h. inl h, λ h. elim h [ inl a ↦ a | inr b ↦ has item b.1 ]);
+}
+
 module _ (old mid new : Numbered) (numbers : List ℕ) (mask n start s s' : ℕ)
     (takes : TakesBytes old mid numbers mask n start s) (before : StandAsBefore old mid) (is : IsSet old (slice_index numbers n))
     (adds : AddsByte mid new s mask n (slice_index numbers n) s') where

@@ -9,7 +9,7 @@ use Rattle.taint_flow.specs.declared.flow.Flow.{Flow}
 use Rattle.taint_flow.specs.declared.flow.Flow.TheVariants.{Rising, Carried, Whole, Bytewise}
 use Rattle.taint_flow.specs.Even.{HasSet, HaveLow, HaveOne, HaveTwo, IsSetOrNone}
 use Rattle.taint_flow.specs.Flow.{IsFlow, reach}
-use Rattle.taint_flow.specs.Gathered.{byte_count, number_of}
+use Rattle.taint_flow.specs.Gathered.{AreNumbers, byte_count, number_of}
 use Rattle.taint_flow.specs.Results.{AreResults, TakesOperands}
 use Rattle.taint_flow.proofs.Flows.{bytewise-flow, carried-flow, rising-flow, whole-flow, within-count}
 use Rattle.taint_flow.proofs.Grown.{first-more, lowest-of, only}
@@ -129,3 +129,7 @@ all-alike old new number operands left right set empty two there union = record 
   len = refl;
   bytes = λ byte h. subst (λ n. TakesOperands old new number (operands byte) n) (sym (same-at 8 byte set h)) (takes-two old new number (operands byte) left right set empty (two byte h) there union);
 }
+
+-- the set of a register's lowest byte
+pub low-set : (sets : Numbered) (numbers : List ℕ) (set : ℕ) → AreNumbers sets numbers → slice_index numbers 0 ≡ set → IsSet sets set
+low-set sets numbers set are lowest = subst (IsSet sets) lowest (are.set 0 (omega arith))
