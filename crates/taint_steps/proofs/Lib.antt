@@ -3,3 +3,4 @@ pub mod Entries
 pub mod NothingLoaded
 pub mod NothingStored
 pub mod Whole
+pub mod Stepping

@@ -18,3 +18,9 @@ returns-clause-runs c done =
     (c.load_to.ensures.above done)
     (subst (λ (k : ℕ). PutsRead m segments c.in-Some.at k c.in-Some-rd.reg m.registers c.load_to.new.member.registers) len (c.load_to.ensures.puts done))
     c.load_to.ensures.others c.registers.ensures.first c.registers.ensures.second c.requires.memory
+
+pub load_to-requires : goal.load_to-requires
+load_to-requires c = record { few = c.loaded_len.ensures.few; held = c.requires.held }
+
+pub returns-clause-kept : goal.returns-clause-kept
+returns-clause-kept c = c.load_to.ensures.kept

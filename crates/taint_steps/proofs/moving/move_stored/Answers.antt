@@ -19,3 +19,12 @@ returns-clause-runs c done =
     (subst (λ (k : ℕ). PutsWindow at (take k second) m.window c.write_held.new.window) len c.in_ok-write_held.ensures.window)
     (subst (λ (k : ℕ). WritesSegment at (take k second) m.segment c.args.segments.now c.write_held.new.segments) len c.in_ok-write_held.ensures.segment)
     refl c.registers.ensures.first (subst (λ (r : ℕ). IsRegister m.registers r second) c.rs2.ensures c.bytes_of.ensures)
+
+pub write_held-requires-clause-held : goal.write_held-requires-clause-held
+write_held-requires-clause-held c = c.requires.held
+
+pub returns-in_err-write_held-clause-keys : goal.returns-in_err-write_held-clause-keys
+returns-in_err-write_held-clause-keys c = c.write_held.ensures.keys
+
+pub returns-clause-keys : goal.returns-clause-keys
+returns-clause-keys c = c.write_held.ensures.keys
