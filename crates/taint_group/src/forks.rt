@@ -64,10 +64,11 @@ impl Group {
             pid event len self.old self.new) }
     {
         forks_show();
-        let numbers = empty(*self.members.allocator(), len)?;
+        let alloc = *self.members.allocator();
         let kid = child_of(self.members.as_mut_slice(), pid, event)?;
         return_member(self.members.as_mut_slice(), pid);
         may_place(&mut self.members, child, kid)?;
+        let numbers = empty(alloc, len)?;
         self.heard.hear(event, numbers)
     }
 }

@@ -96,7 +96,6 @@ impl Group {
     {
         shares_show();
         let alloc = *self.members.allocator();
-        let numbers = empty(alloc, len)?;
         let key = key_for(self.members.as_slice(), self.segments.len(), event);
         let segment = fresh_segment(alloc)?;
         put_segment(&mut self.segments, key, segment)?;
@@ -105,6 +104,7 @@ impl Group {
             pid,
             Shared { made: event, key },
         );
+        let numbers = empty(alloc, len)?;
         self.heard.hear(event, numbers)
     }
 }
