@@ -1,4 +1,4 @@
-use Rattle.std.proofs.Common.{◌≡◌, ◌↔◌, ◌<◌, w64, refl, subst, sym, rules}
+use Rattle.std.proofs.Common.{◌↔◌, ◌<◌, w64, refl, subst, sym, rules}
 use Rattle.std.proofs.lemmas.Int.{to_z-of_z}
 use mir.Val.{SFits}
 use Rattle.rv64_model.specs.Carries.{operands}
