@@ -33,12 +33,15 @@ impl Carrying {
     pub fn new(alloc: Global, sets: ByteSets, memo: u32) -> Result<Carrying, NoMemory>
         ensures { IfOk result (λ carrying. carrying.from ≡ sets) }
     {
-        let (from, into) = sets.emptied(alloc, memo)?;
-        Ok(Carrying {
-            numbers: vec![in alloc; 0; from.len()]?,
-            from,
-            into,
-        })
+        let numbers = vec![in alloc; 0; sets.count()]?;
+        match sets.emptied(alloc, memo) {
+            Ok((from, into)) => Ok(Carrying {
+                from,
+                into,
+                numbers,
+            }),
+            Err(lack) => Err(lack),
+        }
     }
 
     /// The fresh sets.

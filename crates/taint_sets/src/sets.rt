@@ -79,6 +79,11 @@ impl ByteSets {
         self.kept.len() >= self.many
     }
 
+    /// How many sets are kept.
+    pub(crate) fn count(&self) -> usize {
+        self.kept.len()
+    }
+
     /// The sets that are kept, and sets in their place with the same received bytes, of which none but the empty one is kept.
     /// The unions of at most `memo` pairs of these are remembered.
     pub(crate) fn emptied(self, alloc: Global, memo: u32) -> Result<(Sets, ByteSets), NoMemory>
