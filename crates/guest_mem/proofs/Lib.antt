@@ -1,8 +1,11 @@
+pub mod Exits
 pub mod Joined
+pub mod Lent
 pub mod Mapped
 pub mod Near
 pub mod Owned
 pub mod Pieces
+pub mod Shown
 pub mod Spelled
 pub mod Used
 pub mod Windows

@@ -21,6 +21,31 @@ own-again [] number own = refl
 own-again (x ∷ xs) zero own = ap (λ (b : Bool). b ∷ xs) own
 own-again (x ∷ xs) (suc n) own = ap (λ (l : List Bool). x ∷ l) (own-again xs n own)
 
+-- no page of a range lies before its first one
+pub below-none : {A : Type 0} (page first : ℕ) → first ≤ page → page < first → A
+below-none page first least below = absurd (omega arith)
+
+pub none-before : {A : Type 0} (page : ℕ) → page < 0 → A
+none-before page below = absurd (omega arith)
+
+-- each page of a range lies before its end
+pub below-end : (page end number : ℕ) → page < end → end ≤ number → page < number
+below-end page end number below last = omega arith
+
+-- a number before the end of a range is one of the table
+pub in-table : (number end most all now : ℕ) → number < end → end ≤ most → all ≡ most → now ≡ all → number < now
+in-table number end most all now below few count same = omega arith
+
+-- memory in hand for each page that is left
+pub some-left : (number end spare : ℕ) → number < end → end ≤ number + spare → 0 < spare
+some-left number end spare below enough = omega arith
+
+pub enough-first : (end first met spare : ℕ) → end ≤ first + met → met ≤ spare → end ≤ first + spare
+enough-first end first met spare few enough = omega arith
+
+pub enough-more : (end number before after : ℕ) → end ≤ number + before → before ≤ after + 1 → end ≤ number + 1 + after
+enough-more end number before after enough one = omega arith
+
 -- one more page is own
 own-set : (own : List Bool) (number page : ℕ) → IsOwn own page → IsOwn (set own number true) page
 own-set [] number page h = h
@@ -53,6 +78,9 @@ unset-other (x ∷ xs) (suc number) (suc page) h = unset-other xs number page h
 
 pub gains-none : (place len : ℕ) (own : List Bool) → Gains place len own own
 gains-none place len own = record { count = refl; kept = λ page h. h; gained = λ page h. inl h }
+
+pub gains-same : (place len : ℕ) (old now : List Bool) → now ≡ old → Gains place len old now
+gains-same place len old now same = subst (λ (own : List Bool). Gains place len old own) (sym same) (gains-none place len old)
 
 pub gains-one : (place len : ℕ) (old now : List Bool) (number : ℕ) → Gains place len old now → Meets place len number → Gains place len old (set now number true)
 gains-one place len old now number g met = record {
