@@ -1,5 +1,5 @@
 -- What an image is, and the first window that it gives.
-use Rattle.std.proofs.Common.{◌≡◌, ℕ, ◌+◌, ◌-◌, ◌≤◌, ◌++◌, true, List, length, take, Some, arith, length-append}
+use Rattle.std.proofs.Common.{◌≡◌, ℕ, ◌+◌, ◌-◌, ◌≤◌, ◌++◌, ◌∙◌, Bool, if◌then◌else◌, true, List, length, take, Option, None, Some, ap, sym, arith, length-append}
 use Rattle.std.proofs.lemmas.Bool.Decides.{nat_tests}
 use Rattle.std.proofs.lemmas.List.{take-replicate, drop-replicate, length-replicate, drop_all, append-nil}
 use Rattle.arn_base.specs.Disk.{overwrite}
@@ -26,3 +26,9 @@ first-window load body block h1 h2 h3 = grind (arith, nat_tests, length-among_ze
 -- the image of a file is the file read as one
 pub image-is : (file : List ℕ) (image : Image) → is_image file ≡ true → image_of file ≡ Some image → read_as_image file ≡ image
 image-is file image h1 h2 = grind (arith, nat_tests)
+
+-- a file that is an image holds one
+pub no-image : {A : Type 0} (file : List ℕ) → is_image file ≡ true → image_of file ≡ None → A
+no-image file is none =
+    let some : image_of file ≡ Some (read_as_image file) = ap (λ (b : Bool). if b then Some (read_as_image file) else None) is in
+    absurd (let same : ◌≡◌ {A = Option Image} None (Some (read_as_image file)) = sym none ∙ some in cc)

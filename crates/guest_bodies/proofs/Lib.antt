@@ -20,6 +20,7 @@ pub mod Numbers
 pub mod Places
 pub mod Puts
 pub mod Released
+pub mod Seen
 pub mod Shares
 pub mod Spelled
 pub mod Starts

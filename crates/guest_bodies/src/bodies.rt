@@ -394,10 +394,10 @@ impl Bodies {
         ensures watches { OnOk result (SetsWatch child (Some fresh_watch) self.old self.new) }
         ensures err { OnErr result (self.new ≡ self.old) }
     {
-        let space = window_of(self.alloc, start.blocks.as_slice())?;
         self.decoder.make_room()?;
+        let space = window_of(self.alloc, start.blocks.as_slice())?;
         make_room(&mut self.guests, child)?;
-        self.guests[child as usize] = Some(begin(event, start, space));
+        let _ = self.guests[child as usize].insert(begin(event, start, space));
         Ok(())
     }
 
@@ -459,10 +459,10 @@ impl Bodies {
         ensures watches { OnOk result (SetsWatch 1 (Some fresh_watch) self.old self.new) }
         ensures err { OnErr result (self.new ≡ self.old) }
     {
-        let first = First::new(self.alloc, file, &[])?;
         self.decoder.make_room()?;
+        let first = First::new(self.alloc, file, &[])?;
         make_room(&mut self.guests, 1)?;
-        self.guests[1] = Some(boot(event, first));
+        let _ = self.guests[1].insert(boot(event, first));
         Ok(())
     }
 

@@ -9,7 +9,12 @@ use Rattle.guest_bodies.proofs.Ends.{sound-gone, follows-end, ends-watch}
 use Rattle.guest_bodies.proofs.Holders.{given-back}
 use Rattle.guest_bodies.proofs.InPlace.{place}
 use Rattle.guest_bodies.proofs.Released.{keyed, released-kept, unseen}
+use Rattle.guest_bodies.proofs.Seen.{inside-there}
 use Rattle.guest_bodies.proofs.bodies.Bodies.ends.Goals as goal
+
+pub index-requires : goal.index-requires
+index-requires c =
+    inside-there c.args.self.now c.self.inside.guests.items c.self.inside.segments.items c.args.pid c.self.inside.guests.len c.self.inside.guests.ok.0 c.self.view_is c.requires.live
 
 pub release-requires : goal.release-requires
 release-requires c =

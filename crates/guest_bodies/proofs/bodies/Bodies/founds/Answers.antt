@@ -4,8 +4,13 @@ use Rattle.guest_bodies.specs.declared.guest.Guest.{Guest}
 use Rattle.guest_bodies.proofs.Changes.{live-there}
 use Rattle.guest_bodies.proofs.Forks.{Bears, bears, bears-watch, found-kept, found-sound, found-follows}
 use Rattle.guest_bodies.proofs.Numbers.{nth-get_or}
+use Rattle.guest_bodies.proofs.Seen.{inside-there}
 use Rattle.guest_bodies.proofs.bodies.Bodies.founds.Goals as goal
 use Rattle.guest_bodies.proofs.bodies.Bodies.founds.Goals.{After-fork}
+
+pub index-requires : goal.index-requires
+index-requires c =
+    inside-there c.args.self.now c.self.inside.guests.items c.self.inside.segments.items c.args.pid c.self.inside.guests.len c.self.inside.guests.ok.0 (c.self.view_is ∙ c.share_pages.ensures) c.requires.live
 
 pub fork-requires-clause-live : goal.fork-requires-clause-live
 fork-requires-clause-live c =

@@ -5,7 +5,12 @@ use Rattle.acts_model.specs.Views.{returned, with_result}
 use Rattle.guest_bodies.specs.Kept.{held_bytes, view_of, watch_of}
 use Rattle.guest_bodies.specs.declared.guest.Guest.{Guest}
 use Rattle.guest_bodies.proofs.InPlace.{place, moved-kept, moved-follows, moved-watches}
+use Rattle.guest_bodies.proofs.Seen.{inside-there}
 use Rattle.guest_bodies.proofs.bodies.Bodies.receives.Goals as goal
+
+pub index_mut-requires : goal.index_mut-requires
+index_mut-requires c =
+    inside-there c.args.self.now c.self.inside.guests.items c.self.inside.segments.items c.args.pid c.self.inside.guests.len c.self.inside.guests.ok.0 c.self.view_is c.requires.live
 
 pub invariant_of-self : goal.invariant_of-self
 invariant_of-self c =

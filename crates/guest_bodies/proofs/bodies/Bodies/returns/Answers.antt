@@ -3,7 +3,12 @@ use Rattle.acts_model.specs.Bodies.{View}
 use Rattle.guest_bodies.specs.Kept.{view_of, watch_of}
 use Rattle.guest_bodies.specs.declared.guest.Guest.{Guest}
 use Rattle.guest_bodies.proofs.InPlace.{place, in_place-kept, in_place-follows, in_place-watches, acted-result, joined-result}
+use Rattle.guest_bodies.proofs.Seen.{inside-there}
 use Rattle.guest_bodies.proofs.bodies.Bodies.returns.Goals as goal
+
+pub index_mut-requires : goal.index_mut-requires
+index_mut-requires c =
+    inside-there c.args.self.now c.self.inside.guests.items c.self.inside.segments.items c.args.pid c.self.inside.guests.len c.self.inside.guests.ok.0 c.self.view_is c.requires.live
 
 pub invariant_of-self : goal.invariant_of-self
 invariant_of-self c =

@@ -4,7 +4,12 @@ use Rattle.acts_model.specs.Views.{stands_at}
 use Rattle.guest_bodies.specs.Running.{StopsAt}
 use Rattle.guest_bodies.proofs.InPlace.{place}
 use Rattle.guest_bodies.proofs.Many.{along, lives-now, sees-now}
+use Rattle.guest_bodies.proofs.Seen.{inside-there}
 use Rattle.guest_bodies.proofs.bodies.Bodies.run.Goals as goal
+
+pub index_mut-requires : goal.index_mut-requires
+index_mut-requires g c =
+    inside-there c.args.self.now c.self.inside.guests.items c.self.inside.segments.items c.args.pid c.self.inside.guests.len c.self.inside.guests.ok.0 c.self.view_is c.requires.live
 
 pub invariant_of-self : goal.invariant_of-self
 invariant_of-self g c =

@@ -9,7 +9,12 @@ use Rattle.guest_bodies.proofs.Holders.{given-fresh}
 use Rattle.guest_bodies.proofs.InPlace.{place}
 use Rattle.guest_bodies.proofs.Released.{released-kept, unseen}
 use Rattle.guest_bodies.proofs.Shares.{named, sharing, shares-keyed, shares-sound, shares-follows, shares-watches}
+use Rattle.guest_bodies.proofs.Seen.{inside-there}
 use Rattle.guest_bodies.proofs.bodies.Bodies.shares.Goals as goal
+
+pub index_mut-requires : goal.index_mut-requires
+index_mut-requires c =
+    inside-there c.args.self.now c.self.inside.guests.items c.self.inside.segments.items c.args.pid c.self.inside.guests.len c.self.inside.guests.ok.0 c.self.view_is c.requires.live
 
 pub release-requires : goal.release-requires
 release-requires c =
