@@ -1,10 +1,11 @@
 -- What an image is, and the first window that it gives.
-use Rattle.std.proofs.Common.{◌≡◌, ℕ, ◌+◌, ◌-◌, ◌≤◌, ◌++◌, ◌∙◌, Bool, if◌then◌else◌, true, List, length, take, Option, None, Some, ap, sym, arith, length-append}
+use Rattle.std.proofs.Common.{◌≡◌, ℕ, ◌+◌, ◌-◌, ◌≤◌, ◌++◌, ◌∙◌, ◌&&◌, Bool, bytes_eq, nat_le, if◌then◌else◌, true, List, length, take, Option, None, Some, ap, sym, arith, length-append}
+use Rattle.std.proofs.lemmas.Bool.{and_parts, leb-true}
 use Rattle.std.proofs.lemmas.Bool.Decides.{nat_tests}
 use Rattle.std.proofs.lemmas.List.{take-replicate, drop-replicate, length-replicate, drop_all, append-nil}
 use Rattle.arn_base.specs.Disk.{overwrite}
 use Rattle.parts_model.specs.declared.limits.TheConstants.{WINDOW_START, WINDOW_END, WINDOW_LEN}
-use Rattle.parts_model.specs.Image.{Image, image_of, is_image, read_as_image}
+use Rattle.parts_model.specs.Image.{Image, can_enter, fits_window, header_len, image_name, image_of, is_image, read_as_image}
 use Rattle.parts_model.specs.Memory.{zeros}
 use Rattle.acts_model.specs.Views.{among_zeros}
 
@@ -32,3 +33,13 @@ pub no-image : {A : Type 0} (file : List ℕ) → is_image file ≡ true → ima
 no-image file is none =
     let some : image_of file ≡ Some (read_as_image file) = ap (λ (b : Bool). if b then Some (read_as_image file) else None) is in
     absurd (let same : ◌≡◌ {A = Option Image} None (Some (read_as_image file)) = sym none ∙ some in cc)
+
+-- the body of an image lies in the window, behind the header
+pub image-parts : (file : List ℕ) → is_image file ≡ true → (header_len ≤ length file) × (WINDOW_START ≤ (read_as_image file).load) × ((read_as_image file).load + length (read_as_image file).body ≤ WINDOW_END)
+image-parts file is =
+    let image = read_as_image file in
+    let whole = and_parts (nat_le header_len (length file)) (bytes_eq (take 8 file) image_name && (can_enter image.entry && fits_window image)) is in
+    let named = and_parts (bytes_eq (take 8 file) image_name) (can_enter image.entry && fits_window image) whole.1 in
+    let fits = and_parts (can_enter image.entry) (fits_window image) named.1 in
+    let both = and_parts (nat_le WINDOW_START image.load) (nat_le (image.load + length image.body) WINDOW_END) fits.1 in
+    (leb-true header_len (length file) whole.0, leb-true WINDOW_START image.load both.0, leb-true (image.load + length image.body) WINDOW_END both.1)

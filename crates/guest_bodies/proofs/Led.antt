@@ -1,5 +1,5 @@
 -- Instructions of which an observer is told, where what comes behind them changes nothing.
-use Rattle.std.proofs.Common.{◌≡◌, ◌<◌, ◌+◌, ℕ, zero, suc, List, Result, Ok, Err, OnErr, add-one, arith, subst, sym}
+use Rattle.std.proofs.Common.{◌≡◌, ◌<◌, ◌≤◌, ◌+◌, ℕ, zero, suc, List, Result, Ok, Err, OnErr, add-one, arith, subst, sym}
 use Rattle.arn_base.specs.Window.{Window}
 use Rattle.arn_base.specs.declared.machine.Cpu.{Cpu}
 use Rattle.rv64_isa.specs.declared.instruction.Instr.{Instr}
@@ -38,6 +38,9 @@ led-more windows runs p n cpu cpu' cpu'' memory memory' memory'' x y z instr bef
 
 pub counted-more : (start before n now : ℕ) → before ≡ start + n → now ≡ before + 1 → now ≡ start + (n + 1)
 counted-more start before n now counted tick = omega arith
+
+pub counted-few : (start before n now count : ℕ) → before ≡ start + n → now ≡ before + 1 → n < count → now ≤ start + count
+counted-few start before n now count counted tick less = omega arith
 
 pub counted-last : (start before n now : ℕ) → before ≡ start + n → now ≡ before + 1 → now ≡ start + n + 1
 counted-last start before n now counted tick = omega arith

@@ -1,5 +1,5 @@
 -- What is seen of a process that was read from the table.
-use Rattle.std.proofs.Common.{◌≡◌, ◌<◌, List, Option, Some, IsSome, ℕ, get_or, length, option_map, ap, sym, arith, ◌∙◌}
+use Rattle.std.proofs.Common.{◌≡◌, ◌<◌, List, Option, Some, None, IsSome, is_some, true≢false, ℕ, get_or, length, option_map, ap, sym, arith, ◌∙◌}
 use Rattle.guest_bodies.specs.Kept.{IfHeld, IsSound, Segments, shown_all, view_of}
 use Rattle.guest_bodies.specs.Shown.{Guests, seen_in}
 use Rattle.guest_bodies.specs.declared.guest.Guest.{Guest}
@@ -20,10 +20,14 @@ pub held-there : (guests : Guests) (all : List (Option Guest)) (segs : Segments)
 held-there guests all segs p slot g shown sound live read is =
     there-of p g all segs sound (stands-there guests all segs p slot g shown live read is)
 
-within-table : (p len count : ℕ) → len ≡ count → p < count → p < len
+-- a number below the count of the things is within the table
+pub within-table : (p len count : ℕ) → len ≡ count → p < count → p < len
 within-table p len count same less = omega arith
 
 -- and its number is within the table
 pub inside-there : (guests : Guests) (all : List (Option Guest)) (segs : Segments) (p len : ℕ) → len ≡ length all → shown_all all segs ≡ guests → IsSome (nth guests p) → p < len
 inside-there guests all segs p len same shown live =
     within-table p len (length all) same (IsSome-within all p (live-there guests all segs p shown live))
+
+pub none-stands : (all : List (Option Guest)) (p : ℕ) (slot : Option Guest) → IsSome (nth all p) → slot ≡ get_or all p slot → slot ≡ None → ⊥
+none-stands all p slot there read is = true≢false (sym there ∙ ap (λ (o : Option Guest). is_some o) (nth-get_or all p slot there read ∙ is))

@@ -1,4 +1,5 @@
-use Rattle.guest_bodies.proofs.Led.{counted-last, counted-more, led-fails, led-more, on-err}
+use Rattle.std.proofs.lemmas.Result.{IfOk-from_err}
+use Rattle.guest_bodies.proofs.Led.{counted-few, counted-last, counted-more, led-fails, led-more, on-err}
 use Rattle.guest_bodies.proofs.told.run_told.Goals as goal
 
 pub loop-ran-preserved : goal.loop-ran-preserved
@@ -26,3 +27,41 @@ returns-in_err-tell-clause-failed g c =
       less = c.loop-ran-test.true;
       counted = counted-last c.args.steps.now c.loop-ran.steps c.loop-ran.ran c.next_instr_with.new.steps c.loop-ran.invariant.counted c.next_instr_with.ensures.tick;
     })
+
+pub returns-in_err-tell-clause-told : goal.returns-in_err-tell-clause-told
+returns-in_err-tell-clause-told g c = IfOk-from_err c.from_residual.result _ c.from_residual.ensures.0
+
+pub returns-in_err-tell-clause-within : goal.returns-in_err-tell-clause-within
+returns-in_err-tell-clause-within g c = IfOk-from_err c.from_residual.result _ c.from_residual.ensures.0
+
+pub returns-in_err-tell-clause-stops : goal.returns-in_err-tell-clause-stops
+returns-in_err-tell-clause-stops g c = IfOk-from_err c.from_residual.result _ c.from_residual.ensures.0
+
+pub returns-in_err-tell-clause-counted : goal.returns-in_err-tell-clause-counted
+returns-in_err-tell-clause-counted g c = IfOk-from_err c.from_residual.result _ c.from_residual.ensures.0
+
+pub returns-in_err-tell-clause-stopped : goal.returns-in_err-tell-clause-stopped
+returns-in_err-tell-clause-stopped g c = IfOk-from_err c.from_residual.result _ c.from_residual.ensures.0
+
+pub returns-in_err-tell-clause-bounded : goal.returns-in_err-tell-clause-bounded
+returns-in_err-tell-clause-bounded g c =
+    counted-few c.args.steps.now c.loop-ran.steps c.loop-ran.ran c.next_instr_with.new.steps c.args.stretch.count c.loop-ran.invariant.counted c.next_instr_with.ensures.tick c.loop-ran-test.true
+
+pub returns-in_err-execute-clause-told : goal.returns-in_err-execute-clause-told
+returns-in_err-execute-clause-told g c = IfOk-from_err c.from_residual-in_err-execute.result _ c.from_residual-in_err-execute.ensures.0
+
+pub returns-in_err-execute-clause-within : goal.returns-in_err-execute-clause-within
+returns-in_err-execute-clause-within g c = IfOk-from_err c.from_residual-in_err-execute.result _ c.from_residual-in_err-execute.ensures.0
+
+pub returns-in_err-execute-clause-stops : goal.returns-in_err-execute-clause-stops
+returns-in_err-execute-clause-stops g c = IfOk-from_err c.from_residual-in_err-execute.result _ c.from_residual-in_err-execute.ensures.0
+
+pub returns-in_err-execute-clause-counted : goal.returns-in_err-execute-clause-counted
+returns-in_err-execute-clause-counted g c = IfOk-from_err c.from_residual-in_err-execute.result _ c.from_residual-in_err-execute.ensures.0
+
+pub returns-in_err-execute-clause-stopped : goal.returns-in_err-execute-clause-stopped
+returns-in_err-execute-clause-stopped g c = IfOk-from_err c.from_residual-in_err-execute.result _ c.from_residual-in_err-execute.ensures.0
+
+pub returns-in_err-execute-clause-bounded : goal.returns-in_err-execute-clause-bounded
+returns-in_err-execute-clause-bounded g c =
+    counted-few c.args.steps.now c.loop-ran.steps c.loop-ran.ran c.next_instr_with.new.steps c.args.stretch.count c.loop-ran.invariant.counted c.next_instr_with.ensures.tick c.loop-ran-test.true

@@ -1,14 +1,6 @@
-use Rattle.std.proofs.Common.{◌≤◌, ◌∙◌, length, arith}
-use Rattle.guest_bodies.proofs.Laid.{one-more, none-left}
+use Rattle.std.proofs.Common.{List, ℕ, ap, ◌∙◌}
+use Rattle.parts_model.specs.Blocks.{with_blocks}
 use Rattle.guest_bodies.proofs.windows.window_of.Goals as goal
 
-pub loop-block-preserved : goal.loop-block-preserved
-loop-block-preserved c = record {
-  laid = one-more c.args.blocks.now c.loop-block.block-index _ c.loop-block.space.bytes c.lay.new.space.bytes c.loop-block-test.true c.in_ok-lay.ensures.laid ∙ c.loop-block.invariant.laid;
-  size = c.lay.ensures.length;
-}
-
 pub returns : goal.returns
-returns c =
-    let past : length c.args.blocks.now ≤ c.loop-block.block-index = omega arith in
-    none-left c.args.blocks.now c.loop-block.block-index c.loop-block.space.bytes _ past c.loop-block.invariant.laid
+returns c = c.in_ok-lay_all.ensures ∙ ap (λ (bytes : List ℕ). with_blocks c.args.blocks.now bytes) c.in_ok-space.ensures.zeros

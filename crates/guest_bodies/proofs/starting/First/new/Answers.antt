@@ -1,9 +1,10 @@
-use Rattle.std.proofs.Common.{◌≡◌, ◌-◌, ◌∙◌, List, ℕ, length, take, drop, refl, sym, ap, arith}
-use Rattle.std.proofs.lemmas.List.{length-drop, take_all}
+use Rattle.std.proofs.Common.{◌+◌, ◌≤◌, subst, ◌≡◌, ◌-◌, ◌∙◌, List, ℕ, length, take, drop, refl, sym, ap, arith}
+use Rattle.std.proofs.lemmas.List.{take_rest, length-drop, take_all}
 use Rattle.std.proofs.lemmas.Result.{IfOk-from_err}
 use Rattle.parts_model.specs.Image.{Image, header_len}
 use Rattle.acts_model.specs.Views.{cpu_at_start, window_at_start}
-use Rattle.guest_bodies.proofs.Images.{image-is, no-image}
+use Rattle.parts_model.specs.declared.limits.TheConstants.{WINDOW_END, WINDOW_START}
+use Rattle.guest_bodies.proofs.Images.{image-is, image-parts, no-image}
 use Rattle.guest_bodies.proofs.starting.First.new.Goals as goal
 
 pub returns-clause-space : goal.returns-clause-space
@@ -29,3 +30,15 @@ returns-clause-cpu c =
     let file = c.args.file.now in
     let image : Image = record { entry = c.in-Ok.image.entry; load = c.in-Ok.image.load; body = drop header_len file } in
     c.at_start.ensures ∙ ap (λ (i : Image). cpu_at_start i.entry (length c.args.block.now)) (sym (image-is file image c.requires.image c.in-Ok.ensures.image))
+
+pub slice_bounds-first_window-count : goal.slice_bounds-first_window-count
+slice_bounds-first_window-count c = (image-parts c.args.file.now c.requires.image).0
+
+pub first_window-requires-clause-low : goal.first_window-requires-clause-low
+first_window-requires-clause-low c =
+    subst (λ (i : Image). WINDOW_START ≤ i.load) (image-is c.args.file.now _ c.requires.image c.in-Ok.ensures.image) (image-parts c.args.file.now c.requires.image).1
+
+pub first_window-requires-clause-high : goal.first_window-requires-clause-high
+first_window-requires-clause-high c =
+    subst (λ (n : ℕ). c.in-Ok.image.load + n ≤ WINDOW_END) (sym (ap (λ (l : List ℕ). length l) (take_rest c.args.file.now header_len)))
+    (subst (λ (i : Image). i.load + length i.body ≤ WINDOW_END) (image-is c.args.file.now _ c.requires.image c.in-Ok.ensures.image) (image-parts c.args.file.now c.requires.image).2)
