@@ -7,7 +7,8 @@ use Rattle.guest_bodies.specs.Shown.{Guests, seen_in}
 use Rattle.guest_bodies.specs.declared.guest.Guest.{Guest}
 use Rattle.guest_bodies.proofs.Changes.{seen-shown, same-shown}
 use Rattle.guest_bodies.proofs.InPlace.{place, in_place-kept}
-use Rattle.guest_bodies.proofs.Seen.{inside-there}
+use Rattle.guest_bodies.proofs.Seen.{held-there, inside-there}
+use Rattle.guest_bodies.proofs.Tolds.{none-there}
 use Rattle.guest_bodies.proofs.bodies.Bodies.next_instr.Goals as goal
 
 pub index_mut-requires : goal.index_mut-requires
@@ -31,3 +32,11 @@ pub returns-clause-same : goal.returns-clause-same
 returns-clause-same g c =
     let at = place c.args.self.now c.self.inside.guests.items c.self.inside.segments.items c.args.pid c.index_mut.result.now c.in-Some.guest c.next_lent.new.guest c.self.view_is c.self.invariant.sound c.requires.live c.index_mut.ensures.value c.in-Some.is in
     same-shown c.args.pid c.in-Some.guest c.next_lent.new.guest c.self.inside.guests.items c.self.inside.segments.items c.next_lent.new.segments.items at.stands c.next_lent.ensures.table c.next_lent.ensures.same (ap watch_of c.next_lent.ensures.guest) ∙ c.self.view_is
+
+pub next_lent-requires : goal.next_lent-requires
+next_lent-requires g c =
+    held-there c.args.self.now c.self.inside.guests.items c.self.inside.segments.items c.args.pid c.index_mut.result.now c.in-Some.guest c.self.view_is c.self.invariant.sound c.requires.live c.index_mut.ensures.value c.in-Some.is
+
+pub unreachable-requires : goal.unreachable-requires
+unreachable-requires g c =
+    none-there c.args.self.now c.self.inside.guests.items c.self.inside.segments.items c.args.pid c.index_mut.result.now c.self.view_is c.requires.live c.index_mut.ensures.value c.in-None.is

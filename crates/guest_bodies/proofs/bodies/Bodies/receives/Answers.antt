@@ -5,7 +5,7 @@ use Rattle.acts_model.specs.Views.{returned, with_result}
 use Rattle.guest_bodies.specs.Kept.{held_bytes, view_of, watch_of}
 use Rattle.guest_bodies.specs.declared.guest.Guest.{Guest}
 use Rattle.guest_bodies.proofs.InPlace.{place, moved-kept, moved-follows, moved-watches}
-use Rattle.guest_bodies.proofs.Seen.{inside-there}
+use Rattle.guest_bodies.proofs.Seen.{held-there, inside-there}
 use Rattle.guest_bodies.proofs.bodies.Bodies.receives.Goals as goal
 
 pub index_mut-requires : goal.index_mut-requires
@@ -28,3 +28,7 @@ pub returns-clause-watches : goal.returns-clause-watches
 returns-clause-watches c =
     let at = place c.args.self.now c.self.inside.guests.items c.self.inside.segments.items c.args.pid c.index_mut.result.now c.in-Some.guest c.returns.new.self c.self.view_is c.self.invariant.sound c.requires.live c.index_mut.ensures.value c.in-Some.is in
     moved-watches at (ap (λ (x : Guest). x.made) (c.returns.ensures ∙ ap (λ (x : Guest). record x { cpu = returned x.cpu c.args.answer }) c.write.ensures.guest)) (ap (λ (x : Guest). x.segment) (c.returns.ensures ∙ ap (λ (x : Guest). record x { cpu = returned x.cpu c.args.answer }) c.write.ensures.guest)) (held_bytes c.write.new.segments.items c.in-Some.guest.segment) c.write.new.segments.items c.write.ensures.segments (ap watch_of c.returns.ensures ∙ ap watch_of c.write.ensures.guest)
+
+pub write-requires-clause-held : goal.write-requires-clause-held
+write-requires-clause-held c =
+    held-there c.args.self.now c.self.inside.guests.items c.self.inside.segments.items c.args.pid c.index_mut.result.now c.in-Some.guest c.self.view_is c.self.invariant.sound c.requires.live c.index_mut.ensures.value c.in-Some.is

@@ -4,7 +4,8 @@ use Rattle.acts_model.specs.Views.{stands_at}
 use Rattle.guest_bodies.specs.Running.{StopsAt}
 use Rattle.guest_bodies.proofs.InPlace.{place}
 use Rattle.guest_bodies.proofs.Many.{along, lives-now, sees-now}
-use Rattle.guest_bodies.proofs.Seen.{inside-there}
+use Rattle.guest_bodies.proofs.Seen.{held-there, inside-there}
+use Rattle.guest_bodies.proofs.Tolds.{none-there}
 use Rattle.guest_bodies.proofs.bodies.Bodies.run.Goals as goal
 
 pub index_mut-requires : goal.index_mut-requires
@@ -37,3 +38,11 @@ pub returns-clause-live : goal.returns-clause-live
 returns-clause-live g c =
     let at = place c.args.self.now c.self.inside.guests.items c.self.inside.segments.items c.args.pid c.index_mut.result.now c.in-Some.guest c.run.new.guest c.self.view_is c.self.invariant.sound c.requires.live c.index_mut.ensures.value c.in-Some.is in
     lives-now c.args.self.now c.self.inside.guests.items c.self.inside.segments.items c.args.pid c.in-Some.guest at.shown at.sound at.stands c.run.new.guest c.run.new.segments.items
+
+pub run-requires : goal.run-requires
+run-requires g c =
+    held-there c.args.self.now c.self.inside.guests.items c.self.inside.segments.items c.args.pid c.index_mut.result.now c.in-Some.guest c.self.view_is c.self.invariant.sound c.requires.live c.index_mut.ensures.value c.in-Some.is
+
+pub unreachable-requires : goal.unreachable-requires
+unreachable-requires g c =
+    none-there c.args.self.now c.self.inside.guests.items c.self.inside.segments.items c.args.pid c.index_mut.result.now c.self.view_is c.requires.live c.index_mut.ensures.value c.in-None.is

@@ -5,7 +5,7 @@ use Rattle.guest_bodies.proofs.Changes.{there-of}
 use Rattle.guest_bodies.proofs.HeldTold.{answer-runs}
 use Rattle.guest_bodies.proofs.InPlace.{place}
 use Rattle.guest_bodies.proofs.Tolds.{none-there, runs-kept, runs-watches, stops-there, told-many}
-use Rattle.guest_bodies.proofs.Seen.{inside-there}
+use Rattle.guest_bodies.proofs.Seen.{held-there, inside-there}
 use Rattle.guest_bodies.proofs.bodies.Bodies.run_told.Goals as goal
 
 pub index_mut-requires : goal.index_mut-requires
@@ -56,3 +56,7 @@ returns-clause-failed g c =
       counted = f.counted;
     })
     c.run_told.ensures.failed
+
+pub run_told-requires : goal.run_told-requires
+run_told-requires g c =
+    held-there c.args.self.now c.self.inside.guests.items c.self.inside.segments.items c.args.pid c.index_mut.result.now c.in-Some.guest c.self.view_is c.self.invariant.sound c.requires.live c.index_mut.ensures.value c.in-Some.is

@@ -8,7 +8,8 @@ use Rattle.guest_bodies.specs.declared.guest.Guest.{Guest}
 use Rattle.guest_bodies.proofs.Changes.{seen-shown, same-shown}
 use Rattle.guest_bodies.proofs.Counts.{OnStop-both}
 use Rattle.guest_bodies.proofs.InPlace.{place, moved-kept, moved-put, moved-watches, reach-back}
-use Rattle.guest_bodies.proofs.Seen.{inside-there}
+use Rattle.guest_bodies.proofs.Seen.{held-there, inside-there}
+use Rattle.guest_bodies.proofs.Tolds.{none-there}
 use Rattle.guest_bodies.proofs.bodies.Bodies.step.Goals as goal
 
 pub index_mut-requires : goal.index_mut-requires
@@ -49,3 +50,11 @@ pub returns-clause-watches : goal.returns-clause-watches
 returns-clause-watches g c =
     let at = place c.args.self.now c.self.inside.guests.items c.self.inside.segments.items c.args.pid c.index_mut.result.now c.in-Some.guest c.step.new.guest c.self.view_is c.self.invariant.sound c.requires.live c.index_mut.ensures.value c.in-Some.is in
     moved-watches at (ap (λ (x : Guest). x.made) c.step.ensures.guest) (ap (λ (x : Guest). x.segment) c.step.ensures.guest) (held_bytes c.step.new.segments.items c.in-Some.guest.segment) c.step.new.segments.items c.step.ensures.segments (ap watch_of c.step.ensures.guest)
+
+pub step-requires : goal.step-requires
+step-requires g c =
+    held-there c.args.self.now c.self.inside.guests.items c.self.inside.segments.items c.args.pid c.index_mut.result.now c.in-Some.guest c.self.view_is c.self.invariant.sound c.requires.live c.index_mut.ensures.value c.in-Some.is
+
+pub unreachable-requires : goal.unreachable-requires
+unreachable-requires g c =
+    none-there c.args.self.now c.self.inside.guests.items c.self.inside.segments.items c.args.pid c.index_mut.result.now c.self.view_is c.requires.live c.index_mut.ensures.value c.in-None.is
