@@ -2,7 +2,7 @@
 use Rattle.std.proofs.Common.{◌≡◌, ◌++◌, Bool, Err, List, Ok, Result, ℕ, ap, drop, length, subst, sym, take, ◌∙◌}
 use Rattle.std.proofs.lemmas.List.{take_at}
 use Rattle.std.specs.Result.{OnErr}
-use Rattle.guest_mem.specs.Pages.{Paged, contents, joined, owned}
+use Rattle.guest_mem.specs.Pages.{ArePages, Paged, contents, joined, owned}
 use Rattle.guest_mem.specs.declared.page.Page.{Page}
 
 abbrev paged : List (List ℕ) → List Bool → Paged
@@ -25,3 +25,7 @@ pub lifted : (P : Paged → Paged → Type 0) (old items new : List Page) (len :
 lifted P old items new len now was is same long holds =
     subst (λ (space : Paged). P now space) (sym (ap shown (take_at new (drop (length new) items) len (same ∙ long))))
     (subst (λ (space : Paged). P space (shown new)) (ap shown was ∙ is) holds)
+
+pub kept-pages : (old items new : List Page) (len : ℕ) → length new ≡ length old → length old ≡ len → ArePages (contents new) → ArePages (contents (take len (new ++ drop (length new) items)))
+kept-pages old items new len same long are =
+    subst (λ (pages : List Page). ArePages (contents pages)) (sym (take_at new (drop (length new) items) len (same ∙ long))) are

@@ -1,6 +1,7 @@
-use Rattle.std.proofs.Common.{◌≡◌, ◌++◌, List, OnOk, ℕ, ap, drop, length, take}
-use Rattle.guest_mem.specs.Pages.{Loses, NoneOwn, Paged, joined}
-use Rattle.guest_mem.proofs.Shown.{lifted, shown}
+use Rattle.std.proofs.Common.{◌≡◌, ◌++◌, List, OnOk, ℕ, ap, drop, length, take, subst, sym, ◌∙◌}
+use Rattle.guest_mem.specs.Pages.{Loses, NoneOwn, Paged, joined, ArePages, contents}
+use Rattle.guest_mem.specs.declared.page.Page.{Page}
+use Rattle.guest_mem.proofs.Shown.{kept-pages, lifted, shown}
 use Rattle.guest_mem.proofs.space.Space.share.Goals as goal
 
 lift : (c : goal.After-self-1) (P : Paged → Paged → Type 0) → P (shown c.as_mut_slice.result.now) (shown c.share.new.pages) → P c.args.self.now (shown (take c.self.inside.pages.len (c.share.new.pages ++ drop (length c.share.new.pages) c.self.inside.pages.items)))
@@ -22,3 +23,8 @@ pub returns-clause-loses : goal.returns-clause-loses
 returns-clause-loses c =
     lift c (λ (before after : Paged). Loses before.own after.own)
     c.share.ensures.loses
+
+pub invariant_of-self : goal.invariant_of-self
+invariant_of-self c =
+    kept-pages c.as_mut_slice.result.now c.self.inside.pages.items c.share.new.pages c.self.inside.pages.len c.share.auto.pages c.as_mut_slice.ensures.len
+    (subst ArePages (sym (c.share.ensures.bytes ∙ ap (λ (l : List Page). contents l) c.as_mut_slice.ensures.value)) c.self.invariant)

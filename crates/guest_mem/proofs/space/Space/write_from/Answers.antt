@@ -6,7 +6,7 @@ use Rattle.guest_mem.specs.Pages.{AreOwn, Gains, Lacks, Paged, contents, joined}
 use Rattle.parts_model.specs.Memory.{private_window}
 use Rattle.parts_model.specs.declared.limits.TheConstants.{WINDOW_LEN, WINDOW_START}
 use Rattle.guest_mem.proofs.Pieces.{length-pages}
-use Rattle.guest_mem.proofs.Shown.{lifted, shown, shown-same}
+use Rattle.guest_mem.proofs.Shown.{kept-pages, lifted, shown, shown-same}
 use Rattle.guest_mem.proofs.space.Space.write_from.Goals as goal
 
 lift : (c : goal.After-self-1) (P : Paged → Paged → Type 0) → P (shown c.as_mut_slice.result.now) (shown c.write_from.new.pages) → P c.args.self.now (shown (take c.self.inside.pages.len (c.write_from.new.pages ++ drop (length c.write_from.new.pages) c.self.inside.pages.items)))
@@ -53,3 +53,8 @@ pub returns-clause-length : goal.returns-clause-length
 returns-clause-length c =
     lift c (λ (before after : Paged). length after.bytes ≡ WINDOW_LEN)
     (length-pages (contents c.write_from.new.pages) c.write_from.ensures.pages)
+
+pub invariant_of-self : goal.invariant_of-self
+invariant_of-self c =
+    kept-pages c.as_mut_slice.result.now c.self.inside.pages.items c.write_from.new.pages c.self.inside.pages.len c.write_from.auto.pages c.as_mut_slice.ensures.len
+    c.write_from.ensures.pages

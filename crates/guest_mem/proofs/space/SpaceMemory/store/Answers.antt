@@ -8,7 +8,7 @@ use Rattle.parts_model.specs.Memory.{private_window}
 use Rattle.parts_model.specs.declared.limits.TheConstants.{WINDOW_START}
 use Rattle.guest_mem.proofs.Exits.{whole-where-ok}
 use Rattle.guest_mem.proofs.Owned.{wants}
-use Rattle.guest_mem.proofs.Shown.{lifted, shown, shown-same}
+use Rattle.guest_mem.proofs.Shown.{kept-pages, lifted, shown, shown-same}
 use Rattle.guest_mem.proofs.space.SpaceMemory.store.Goals as goal
 
 lift : (c : goal.After-self-1) (P : Paged → Paged → Type 0) → P (shown c.as_mut_slice.result.now) (shown c.store.new.pages) → P c.args.self.now (shown (take c.self.inside.pages.len (c.store.new.pages ++ drop (length c.store.new.pages) c.self.inside.pages.items)))
@@ -60,3 +60,8 @@ pub returns-clause-own : goal.returns-clause-own
 returns-clause-own c =
     lift c (λ (before after : Paged). OnOk c.store.result (AreOwn (c.args.at - WINDOW_START) c.args.len after.own))
     c.store.ensures.own
+
+pub invariant_of-self : goal.invariant_of-self
+invariant_of-self c =
+    kept-pages c.as_mut_slice.result.now c.self.inside.pages.items c.store.new.pages c.self.inside.pages.len c.store.auto.pages c.as_mut_slice.ensures.len
+    c.store.ensures.pages
