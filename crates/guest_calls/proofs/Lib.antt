@@ -12,6 +12,9 @@ pub mod NewChannels
 pub mod Filed
 pub mod Piped
 pub mod Opening
+pub mod Paths
+pub mod Refusals
+pub mod Connects
 pub mod Pieces
 pub mod Stands
 pub mod Asks

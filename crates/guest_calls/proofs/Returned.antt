@@ -1,5 +1,5 @@
 -- What is asked again and again of a call: that its process lives, and what a return with an error says.
-use Rattle.std.proofs.Common.{◌≡◌, ℕ, zero, suc, ◌+◌, ◌<◌, ◌≤◌, ◌^◌, arith, is_some, true, true≢false, sym, subst}
+use Rattle.std.proofs.Common.{◌≡◌, ℕ, List, length, zero, suc, ◌+◌, ◌<◌, ◌≤◌, ◌^◌, arith, is_some, true, true≢false, sym, subst}
 use Rattle.std.specs.Prelude.{Result, Ok, Err, IfOk, IsErr, OnErr, OnOk}
 use Rattle.arn_base.specs.declared.records.Extra.{Extra}
 use Rattle.arn_base.specs.declared.records.Extra.TheVariants as extra
@@ -29,6 +29,10 @@ still-enough (suc zero) (suc zero) spare fewer enough = enough
 still-enough (suc zero) (suc (suc many)) spare fewer enough = omega (arith, enough)
 still-enough (suc (suc few)) (suc zero) spare fewer enough = absurd (omega arith)
 still-enough (suc (suc few)) (suc (suc many)) spare fewer enough = omega (arith, enough)
+
+-- what is enough for the most bytes is enough for those that came
+pub enough-for : (sent bytes : List ℕ) (most spare : ℕ) → sent ≡ bytes → length bytes ≤ most → IsEnough most spare → IsEnough (length sent) spare
+enough-for sent bytes most spare same few enough = still-enough (length sent) most spare (subst (λ (x : List ℕ). length x ≤ most) (sym same) few) enough
 
 module _ {T E : Type 0} where
   pub no-ok : (P : T → Type 0) (r : Result T E) → IsErr r → IfOk r P

@@ -1,7 +1,9 @@
 -- Calls that may ask a device, by how they end.
 use Rattle.std.proofs.Common.{◌≡◌, ℕ, Bool, true, false, ◌==◌, if◌then◌else◌, List, length, take, IfOk, IfSome, refl, sym, ap, subst}
 use Rattle.std.specs.Prelude.{◌↔◌, Result, Ok, Err, OnErr, IsErrAnd, IsErrOf, IsTrue}
+use Rattle.std.specs.Result.{result_map_both}
 use Rattle.std.proofs.lemmas.Result.{IfOk-weaker}
+use Rattle.arn_base.specs.declared.errors.NoMemory.{NoMemory}
 use Rattle.parts_model.specs.declared.limits.TheConstants.{MOST_FILE_BYTES}
 use Rattle.parts_model.specs.declared.refusals.TheConstants.{NO_ROOM}
 use Rattle.parts_model.specs.Files.{fitting}
@@ -116,6 +118,20 @@ module _ {A : Type 0} {answers : A → devices.Asked → Answered → A → Type
         err = still;
         unasked = same;
       }
+
+  -- it asks nothing, if there is memory
+  pub alone-or : {t : Tables} (r : Result Done NoMemory) (q : Result Done CallStop) (one : Machine → View → Request) → q ≡ result_map_both (λ d. d) (λ e. stop.NoMemory) r → t ≡ tables_in old → OfTables t pid (λ m v. row m pid v ≡ one m v) → OfTables t pid (λ m v. is_waiting (row m pid v) ≡ false) → IfOk r (λ (d : Done). IsShort d.extra) → asked' ≡ asked → IfOk r (λ (d : Done). OfProcess old pid (λ m v. Carried (one m v) d m pid v new)) → OnErr r (new ≡ old) → Tried answers asked asked' row pid q old new
+  alone-or (Ok d) q one is-q is comes ready short same carried still =
+      subst (λ (x : Result Done CallStop). Tried answers asked asked' row pid x old new) (sym is-q) (alone d one is comes short same carried)
+  alone-or (Err e) q one is-q is comes ready short same carried still =
+      subst (λ (x : Result Done CallStop). Tried answers asked asked' row pid x old new) (sym is-q) (lacks (Err stop.NoMemory) is ready refl still same)
+
+  -- it asks, if there is memory
+  pub asks-or : {t : Tables} (r : Result Done NoMemory) (q : Result Done CallStop) (question : Question) → q ≡ result_map_both (λ d. d) (λ e. stop.NoMemory) r → t ≡ tables_in old → OfTables t pid (λ m v. row m pid v ≡ Asks question) → IfOk r (λ (d : Done). IsShort d.extra) → IfOk r (λ (d : Done). OfProcess old pid (λ m v. Replied answers asked asked' question d m pid v new)) → OnErr r (new ≡ old) → OnErr r (asked' ≡ asked) → Tried answers asked asked' row pid q old new
+  asks-or (Ok d) q question is-q is comes short replied still unasked =
+      subst (λ (x : Result Done CallStop). Tried answers asked asked' row pid x old new) (sym is-q) (asks d question is comes short replied)
+  asks-or (Err e) q question is-q is comes short replied still unasked =
+      subst (λ (x : Result Done CallStop). Tried answers asked asked' row pid x old new) (sym is-q) (lacks (Err stop.NoMemory) is (λ m v same sees. ap is_waiting (comes m v same sees)) refl still unasked)
 
 -- a write to a file is ready
 pub puts-ready : (m : Machine) (at : ℕ) (bytes : List ℕ) (place : Place) → is_waiting (writing_at m at bytes place) ≡ false

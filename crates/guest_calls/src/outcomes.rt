@@ -1,5 +1,6 @@
 // What calls and deliveries came to.
 ghost use Rattle.std.specs.Prelude.{◌≡◌};
+ghost use Rattle.std.specs.Result.{result_map_both};
 ghost use Rattle.guest_calls.specs.declared.outcomes.CallStop.TheVariants as stop;
 ghost use Rattle.guest_calls.specs.declared.outcomes.BootError.TheVariants as boot;
 
@@ -27,6 +28,16 @@ impl From<NoMemory> for CallStop {
 
     fn from(_: NoMemory) -> CallStop {
         CallStop::NoMemory
+    }
+}
+
+/// What a call came to that is ready, as of one that may not be.
+pub(crate) fn or_stop(done: Result<Done, NoMemory>) -> Result<Done, CallStop>
+    ensures { result ≡ result_map_both (λ d. d) (λ e. CallStop.NoMemory) done }
+{
+    match done {
+        Ok(done) => Ok(done),
+        Err(NoMemory) => Err(CallStop::NoMemory),
     }
 }
 

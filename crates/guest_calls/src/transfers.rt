@@ -11,7 +11,7 @@ ghost use Rattle.guest_calls.specs.State.{OfProcess};
 ghost use Rattle.guest_calls.specs.Tried.{Tried};
 
 use crate::kernel::Kernel;
-use crate::outcomes::{CallStop, Done};
+use crate::outcomes::{CallStop, Done, or_stop};
 use arn_base::{Extra, NoMemory};
 use guest_bodies::others_stay_unheld;
 use guest_devices::Answers;
@@ -30,12 +30,14 @@ impl Kernel {
         match self.tables().reading(pid) {
             Reading::Waits => Err(CallStop::NotReady),
             Reading::Answers { answer } => Ok(self.answers(pid, answer)),
-            Reading::Takes { at, count } => Ok(self.take(pid, at, count)?),
-            Reading::Reads { at, most, place } => Ok(self.take_from_file(pid, at, most, place)?),
-            Reading::Drains { at, most, pipe } => Ok(self.drain(pid, at, most, pipe)?),
+            Reading::Takes { at, count } => or_stop(self.take(pid, at, count)),
+            Reading::Reads { at, most, place } => or_stop(self.take_from_file(
+                pid, at, most, place,
+            )),
+            Reading::Drains { at, most, pipe } => or_stop(self.drain(pid, at, most, pipe)),
             Reading::Absent => Ok(self.fails(pid, NO_DEVICE, Extra::Absent)),
             Reading::Asks { device, at, most } => {
-                Ok(self.read_device(pid, device, at, most, answers)?)
+                or_stop(self.read_device(pid, device, at, most, answers))
             }
         }
     }
@@ -136,12 +138,12 @@ impl Kernel {
         match self.tables().writing(pid) {
             Writing::Waits => Err(CallStop::NotReady),
             Writing::Answers { answer } => Ok(self.answers(pid, answer)),
-            Writing::Prints { at, count } => Ok(self.print(pid, at, count)?),
-            Writing::Puts { at, count, place } => Ok(self.put(pid, at, count, place)?),
-            Writing::Pours { at, count, pipe } => Ok(self.pour(pid, at, count, pipe)?),
+            Writing::Prints { at, count } => or_stop(self.print(pid, at, count)),
+            Writing::Puts { at, count, place } => or_stop(self.put(pid, at, count, place)),
+            Writing::Pours { at, count, pipe } => or_stop(self.pour(pid, at, count, pipe)),
             Writing::Absent => Ok(self.fails(pid, NO_DEVICE, Extra::Absent)),
             Writing::Asks { device, at, count } => {
-                Ok(self.write_device(pid, device, at, count, answers)?)
+                or_stop(self.write_device(pid, device, at, count, answers))
             }
         }
     }

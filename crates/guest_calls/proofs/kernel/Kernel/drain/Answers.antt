@@ -1,4 +1,4 @@
-use Rattle.std.proofs.Common.{◌≡◌, ◌∙◌, ◌+◌, ℕ, List, length, sym, ap, subst, refl, ◌≤◌}
+use Rattle.std.proofs.Common.{◌≡◌, ◌∙◌, ◌+◌, ℕ, List, length, sym, ap, subst, refl}
 use Rattle.arn_base.specs.declared.records.Extra.TheVariants as extra
 use Rattle.parts_model.specs.Pipes.{Pipes}
 use Rattle.acts_model.specs.Acts.{Receives, done}
@@ -14,7 +14,7 @@ use Rattle.guest_calls.proofs.Past.{past-acted}
 use Rattle.guest_calls.proofs.Pieces.{body-sound}
 use Rattle.guest_calls.proofs.Piped.{drained-carried, draining-none, nothing-taken}
 use Rattle.guest_calls.proofs.Stands.{machine_with}
-use Rattle.guest_calls.proofs.Returned.{has-room, lives, no-ok, nothing-short, on-err, still-enough}
+use Rattle.guest_calls.proofs.Returned.{has-room, lives, no-ok, nothing-short, on-err, enough-for}
 use Rattle.guest_calls.proofs.kernel.Kernel.drain.Goals as goal
 
 pub returns-then-count-eq0-clause-carried : goal.returns-then-count-eq0-clause-carried
@@ -70,4 +70,4 @@ pub receives-requires-clause-live : goal.receives-requires-clause-live
 receives-requires-clause-live c = lives c.self.inside c.args.self.now c.args.pid c.self.view_is c.requires.live
 
 pub receives-requires-clause-enough : goal.receives-requires-clause-enough
-receives-requires-clause-enough c = still-enough (length c.as_slice.result.now) c.args.most c.in_ok-spare.spare (subst (λ (x : List ℕ). length x ≤ c.args.most) (sym c.as_slice.ensures) c.in_ok-give.ensures.few_bytes) c.in_ok-spare.ensures
+receives-requires-clause-enough c = enough-for c.as_slice.result.now c.in_ok-give.give.bytes c.args.most c.in_ok-spare.spare c.as_slice.ensures c.in_ok-give.ensures.few_bytes c.in_ok-spare.ensures

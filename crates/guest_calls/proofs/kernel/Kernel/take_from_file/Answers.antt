@@ -1,4 +1,4 @@
-use Rattle.std.proofs.Common.{subst, sym, is_some, true, ◌≡◌, ◌∙◌, ◌+◌, List, ℕ, refl, length, ◌≤◌}
+use Rattle.std.proofs.Common.{subst, sym, is_some, true, ◌≡◌, ◌∙◌, ◌+◌, List, ℕ, refl}
 use Rattle.arn_base.specs.declared.records.Extra.TheVariants as extra
 use Rattle.acts_model.specs.Acts.{Receives, done}
 use Rattle.guest_bodies.specs.Follows.{Follows}
@@ -10,7 +10,7 @@ use Rattle.guest_calls.proofs.Filed.{filed-carried}
 use Rattle.parts_model.specs.Numbered.{nth}
 use Rattle.guest_calls.proofs.Past.{past-acted}
 use Rattle.guest_calls.proofs.Room.{acted-sound, booted-live}
-use Rattle.guest_calls.proofs.Returned.{lives, no-ok, nothing-short, on-err, still-enough}
+use Rattle.guest_calls.proofs.Returned.{lives, no-ok, nothing-short, on-err, enough-for}
 use Rattle.guest_calls.proofs.kernel.Kernel.take_from_file.Goals as goal
 
 pub returns-clause-carried : goal.returns-clause-carried
@@ -52,4 +52,4 @@ pub receives-requires-clause-live : goal.receives-requires-clause-live
 receives-requires-clause-live c = lives c.self.inside c.args.self.now c.args.pid c.self.view_is c.requires.live
 
 pub receives-requires-clause-enough : goal.receives-requires-clause-enough
-receives-requires-clause-enough c = still-enough (length c.as_slice.result.now) c.args.most c.in_ok-spare.spare (subst (λ (x : List ℕ). length x ≤ c.args.most) (sym c.as_slice.ensures) c.in_ok-give.ensures.few_bytes) c.in_ok-spare.ensures
+receives-requires-clause-enough c = enough-for c.as_slice.result.now c.in_ok-give.give.bytes c.args.most c.in_ok-spare.spare c.as_slice.ensures c.in_ok-give.ensures.few_bytes c.in_ok-spare.ensures
