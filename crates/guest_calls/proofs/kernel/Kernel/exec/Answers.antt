@@ -56,3 +56,48 @@ returns-clause-carried c =
 
 pub returns-clause-short : goal.returns-clause-short
 returns-clause-short c = c.exec_path.ensures.short
+
+pub argument-at-requires-clause-live : goal.argument-at-requires-clause-live
+argument-at-requires-clause-live c = c.requires.live
+
+pub argument-len-requires-clause-live : goal.argument-len-requires-clause-live
+argument-len-requires-clause-live c = c.requires.live
+
+pub argument-block-requires-clause-live : goal.argument-block-requires-clause-live
+argument-block-requires-clause-live c = c.requires.live
+
+pub argument-block_len-requires-clause-live : goal.argument-block_len-requires-clause-live
+argument-block_len-requires-clause-live c = c.requires.live
+
+pub answers-requires-clause-live : goal.answers-requires-clause-live
+answers-requires-clause-live c = c.requires.live
+
+pub answers-requires-clause-room : goal.answers-requires-clause-room
+answers-requires-clause-room c = c.requires.room
+
+pub returns-in-Some-clause-err : goal.returns-in-Some-clause-err
+returns-in-Some-clause-err c = tt
+
+pub answers-requires-then-lacks_block-clause-live : goal.answers-requires-then-lacks_block-clause-live
+answers-requires-then-lacks_block-clause-live c = c.requires.live
+
+pub answers-requires-then-lacks_block-clause-room : goal.answers-requires-then-lacks_block-clause-room
+answers-requires-then-lacks_block-clause-room c = c.requires.room
+
+pub returns-then-lacks_block-clause-err : goal.returns-then-lacks_block-clause-err
+returns-then-lacks_block-clause-err c = tt
+
+pub exec_path-requires-clause-live : goal.exec_path-requires-clause-live
+exec_path-requires-clause-live c = c.requires.live
+
+pub exec_path-requires-clause-room : goal.exec_path-requires-clause-room
+exec_path-requires-clause-room c = c.requires.room
+
+pub exec_path-requires-clause-block : goal.exec_path-requires-clause-block
+exec_path-requires-clause-block c = c.argument-block.ensures
+
+pub exec_path-requires-clause-block_len : goal.exec_path-requires-clause-block_len
+exec_path-requires-clause-block_len c = c.argument-block_len.ensures
+
+pub returns-clause-err : goal.returns-clause-err
+returns-clause-err c = c.exec_path.ensures.err

@@ -52,3 +52,33 @@ returns-in_err-restart-clause-carried c = no-ok _ c.from_residual-in_err-restart
 
 pub returns-in_err-restart-clause-short : goal.returns-in_err-restart-clause-short
 returns-in_err-restart-clause-short c = no-ok _ c.from_residual-in_err-restart.result c.from_residual-in_err-restart.ensures.0
+
+pub answers-requires-clause-live : goal.answers-requires-clause-live
+answers-requires-clause-live c = c.requires.live
+
+pub answers-requires-clause-room : goal.answers-requires-clause-room
+answers-requires-clause-room c = c.requires.room
+
+pub returns-in-None-clause-err : goal.returns-in-None-clause-err
+returns-in-None-clause-err c = tt
+
+pub answers-requires-then-not-is_image-clause-live : goal.answers-requires-then-not-is_image-clause-live
+answers-requires-then-not-is_image-clause-live c = c.requires.live
+
+pub answers-requires-then-not-is_image-clause-room : goal.answers-requires-then-not-is_image-clause-room
+answers-requires-then-not-is_image-clause-room c = c.requires.room
+
+pub returns-then-not-is_image-clause-err : goal.returns-then-not-is_image-clause-err
+returns-then-not-is_image-clause-err c = tt
+
+pub restart-requires-clause-live : goal.restart-requires-clause-live
+restart-requires-clause-live c = c.requires.live
+
+pub restart-requires-clause-room : goal.restart-requires-clause-room
+restart-requires-clause-room c = c.requires.room
+
+pub restart-requires-clause-few : goal.restart-requires-clause-few
+restart-requires-clause-few c = c.requires.few
+
+pub returns-clause-err : goal.returns-clause-err
+returns-clause-err c = tt

@@ -19,3 +19,21 @@ returns-in_err-child-clause-carried c = no-ok _ c.from_residual-in_err-child.res
 
 pub returns-in_err-child-clause-short : goal.returns-in_err-child-clause-short
 returns-in_err-child-clause-short c = no-ok _ c.from_residual-in_err-child.result c.from_residual-in_err-child.ensures.0
+
+pub answers-requires-clause-live : goal.answers-requires-clause-live
+answers-requires-clause-live c = c.requires.live
+
+pub answers-requires-clause-room : goal.answers-requires-clause-room
+answers-requires-clause-room c = c.requires.room
+
+pub returns-then-is_full-clause-err : goal.returns-then-is_full-clause-err
+returns-then-is_full-clause-err c = tt
+
+pub add_child-requires-clause-live : goal.add_child-requires-clause-live
+add_child-requires-clause-live c = c.requires.live
+
+pub add_child-requires-clause-room : goal.add_child-requires-clause-room
+add_child-requires-clause-room c = c.requires.room
+
+pub returns-clause-err : goal.returns-clause-err
+returns-clause-err c = tt
