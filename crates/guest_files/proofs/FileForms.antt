@@ -1,11 +1,13 @@
 -- Files after one of them changes.
-use Rattle.std.proofs.Common.{◌≡◌, ℕ, ◌+◌, ◌-◌, ◌||◌, nat_lt, Bool, true, false, cond, not, List, [], ◌∷◌, ◌++◌, length, set, Option, None, Some, IsSome, IfSome, option_map, Result, Ok, Err, OnOk, refl, sym, ap, subst, ◌∙◌, arith}
+use Rattle.std.proofs.Common.{◌≡◌, ℕ, ◌+◌, ◌-◌, ◌<◌, ◌||◌, nat_lt, Bool, true, false, cond, not, List, [], ◌∷◌, ◌++◌, length, get_or, set, Option, None, Some, IsSome, is_some, IfSome, option_map, Result, Ok, Err, IfOk, OnOk, OnErr, IsErr, refl, sym, ap, subst, ap₂, ◌∙◌, arith, true≢false}
+use Rattle.std.specs.Prelude.{vec_len}
 use Rattle.std.specs.Str.{bytes_eq}
-use Rattle.parts_model.specs.Files.{File, Files, Name, file_among, has_name, held, if_reached, reached_again, released, rewritten, with_file, with_holder, without_holder, without_name, written}
+use Rattle.parts_model.specs.declared.tagged.TaggedByte.{TaggedByte}
+use Rattle.parts_model.specs.Files.{File, Files, Name, file_among, file_bytes, has_name, held, if_reached, made, reached_again, released, rewritten, with_file, with_holder, without_holder, without_name, written}
 use Rattle.parts_model.specs.Numbered.{nth}
 use Rattle.guest_files.specs.declared.files.Files.TheInside.{Inside}
-use Rattle.guest_files.specs.Table.{AreThere, IsSound}
-use Rattle.guest_files.proofs.Numbers.{AreThere-more, AreThere-push, AreThere-set_none, AreThere-set_some, AreThere-without_name, IsSome-last, IsSome-within, how_many-push, how_many-set_none, how_many-set_some, nth-set, set-nth, set-set}
+use Rattle.guest_files.specs.Table.{AreThere, IsSound, IsThere}
+use Rattle.guest_files.proofs.Numbers.{AreThere-more, AreThere-push, AreThere-set_none, AreThere-set_some, AreThere-without_name, IsSome-last, IsSome-within, how_many-push, how_many-set_none, how_many-set_some, nth-get_or, nth-set, set-nth, set-set}
 
 -- what the fields are seen as
 abbrev pub seen : Inside → Files
@@ -67,6 +69,32 @@ written-put files new all names file at bytes event f f' seen made was is =
     ∙ ap (λ (o : Option File). files_of (set all file (option_map (rewritten at bytes event) o)) names) (sym was)
     ∙ ap (λ (fs : Files). written fs file at bytes event) seen
 
+-- a new file under a free name
+pub made-new : (files : Files) (all all' : List (Option File)) (names names' : List Name) (number : ℕ) (path : List ℕ) (f : File) → files_of all names ≡ files → all' ≡ all ++ Some f ∷ [] → names' ≡ names ++ record { path = path; file = number } ∷ [] → number ≡ length all → f.holders ≡ 0 → files_of all' names' ≡ made files path f.bytes
+made-new files all all' names names' number path f seen more named is none =
+    ap₂ files_of more named
+    ∙ ap (λ (n : ℕ). files_of (all ++ Some f ∷ []) (names ++ record { path = path; file = n } ∷ [])) is
+    ∙ ap (λ (n : ℕ). files_of (all ++ Some (record { bytes = f.bytes; holders = n }) ∷ []) (names ++ record { path = path; file = length all } ∷ [])) none
+    ∙ ap (λ (fs : Files). made fs path f.bytes) seen
+
+-- what a return with an error says
+pub no-ok : {T E : Type 0} (P : T → Type 0) (r : Result T E) → IsErr r → IfOk r P
+no-ok P (Ok x) is = absurd (true≢false (sym is))
+no-ok P (Err e) is = tt
+
+pub not-ok : {T E : Type 0} (P : Type 0) (r : Result T E) → IsErr r → OnOk r P
+not-ok P (Ok x) is = absurd (true≢false (sym is))
+not-ok P (Err e) is = tt
+
+pub on-err : {T E : Type 0} {P : Type 0} (r : Result T E) → P → OnErr r P
+on-err (Ok x) holds = tt
+on-err (Err e) holds = holds
+
+-- a file that did not change
+pub same-put : (files : Files) (all : List (Option File)) (names : List Name) (file : ℕ) (f f' : File) → files_of all names ≡ files → nth all file ≡ Some f → f' ≡ f → files_of (set all file (Some f')) names ≡ files
+same-put files all names file f f' seen was is =
+    ap (λ (g : File). files_of (set all file (Some g)) names) is ∙ ap (λ (a : List (Option File)). files_of a names) (set-nth all file f was) ∙ seen
+
 -- a file that a name or a holder reaches stays
 reached_again-kept : (files : Files) (file : ℕ) (f : File) → nth files.all file ≡ Some f → has_name files.names file || nat_lt 0 f.holders ≡ true → files ≡ reached_again files file (Some f)
 reached_again-kept files file f was reached =
@@ -90,6 +118,39 @@ released-put files mid new all names file f f' seen made settled there was is =
     ∙ ap (λ (g : File). reached_again (files_of all names) file (Some g)) is
     ∙ ap (λ (o : Option File). reached_again (files_of all names) file (option_map without_holder o)) (sym was)
     ∙ ap (λ (fs : Files). released fs file) seen
+
+-- the slot of a file that is there
+pub slot-within : (k : Inside) (files : Files) (file : ℕ) → seen k ≡ files → IsThere files file → file < vec_len k.all
+slot-within k files file is there = omega (arith, IsSome-within k.all.items file (subst (λ (fs : Files). IsThere fs file) (sym is) there), k.all.ok.0)
+
+pub slot-some : (k : Inside) (files : Files) (file : ℕ) (slot : Option File) (f : File) → seen k ≡ files → IsThere files file → slot ≡ get_or k.all.items file slot → slot ≡ Some f → nth files.all file ≡ Some f
+slot-some k files file slot f is there read some =
+    ap (λ (fs : Files). nth fs.all file) (sym is)
+    ∙ (nth-get_or k.all.items file slot (subst (λ (fs : Files). IsThere fs file) (sym is) there) read ∙ some)
+
+pub slot-none : (k : Inside) (files : Files) (file : ℕ) (slot : Option File) → seen k ≡ files → IsThere files file → slot ≡ get_or k.all.items file slot → slot ≡ None → ⊥
+slot-none k files file slot is there read none =
+    let here : IsThere (seen k) file = subst (λ (fs : Files). IsThere fs file) (sym is) there in
+    true≢false (sym here ∙ ap is_some (nth-get_or k.all.items file slot here read ∙ none))
+
+-- what holds of a file that is there, and of what is kept in its place
+pub of-file : (files : Files) (file : ℕ) (f : File) (P : File → Type 0) → nth files.all file ≡ Some f → IfSome (nth files.all file) P → P f
+of-file files file f P is holds = subst (λ (o : Option File). IfSome o P) is holds
+
+pub for-file : (files : Files) (file : ℕ) (f : File) (P : File → Type 0) → nth files.all file ≡ Some f → P f → IfSome (nth files.all file) P
+for-file files file f P is holds = subst (λ (o : Option File). IfSome o P) (sym is) holds
+
+pub bytes-of : {A : Type 0} (files : Files) (file : ℕ) (f : File) (a : A) (g : List TaggedByte → A) → nth files.all file ≡ Some f → a ≡ g f.bytes → Some a ≡ option_map g (file_bytes files file)
+bytes-of {A} files file f a g is same =
+    ap (λ (x : A). Some x) same ∙ ap (λ (o : Option File). option_map g (option_map (λ h. h.bytes) o)) (sym is)
+
+pub IfOk-map : {T E : Type 0} (r : Result T E) (P Q : T → Type 0) → ((v : T) → P v → Q v) → IfOk r P → IfOk r Q
+IfOk-map (Ok v) P Q f h = f v h
+IfOk-map (Err e) P Q f h = tt
+
+pub OnErr-map : {T E : Type 0} (r : Result T E) (P Q : Type 0) → (P → Q) → OnErr r P → OnErr r Q
+OnErr-map (Ok v) P Q f h = tt
+OnErr-map (Err e) P Q f h = f h
 
 pub OnOk-map : {T E : Type 0} (r : Result T E) (P Q : Type 0) → (P → Q) → OnOk r P → OnOk r Q
 OnOk-map (Ok v) P Q f h = f h
