@@ -8,3 +8,4 @@ pub mod WithEvent
 pub mod Whole
 pub mod Extended
 pub mod Foundings
+pub mod Added

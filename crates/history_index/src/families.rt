@@ -186,17 +186,16 @@ impl Families {
         self.lives.reserve(1)?;
         self.runs.reserve(1)?;
         self.foundings.reserve(1)?;
-        let run = Run::new(*self.runs.allocator());
+        self.lives.push_reserved(true);
+        self.runs.push_reserved(Run::new(*self.runs.allocator()));
         if group == pid {
             self.groups.start(pid)?;
-            self.founders.push(pid)?;
+            self.founders.push_reserved(pid);
+            self.foundings.push_reserved(Some(event));
         } else {
             self.groups.join(pid, group)?;
+            self.foundings.push_reserved(None);
         }
-        self.lives.push(true)?;
-        self.runs.push(run)?;
-        self.foundings
-            .push(if group == pid { Some(event) } else { None })?;
         Ok(())
     }
 
