@@ -1,5 +1,5 @@
 -- What a cache of relations holds after a look-up and after a put, and what a relation that was kept tells later.
-use Rattle.std.proofs.Common.{◌≡◌, ◌⊎◌, ℕ, ◌==◌, ◌++◌, Bool, true, ◌&&◌, List, Contains, Some, None, Result, Ok, Err, OnOk, OnErr, refl, sym, ap, subst, ◌∙◌, inl, inr, arith, append_assoc, eqb-true, false}
+use Rattle.std.proofs.Common.{◌≡◌, ◌⊎◌, ℕ, ◌==◌, ◌++◌, Bool, true, ◌&&◌, List, Contains, Option, Some, None, IfSome, Result, Ok, Err, OnOk, OnErr, refl, sym, ap, subst, ◌∙◌, inl, inr, arith, append_assoc, eqb-true, false}
 use Rattle.std.proofs.Math.Bool.{beq}
 use Rattle.std.proofs.lemmas.Bool.Decides.{nat_tests}
 use Rattle.std.specs.Map.{lookup, remove_entry}
@@ -58,21 +58,25 @@ same_extent a b h =
     ∙ (ap (λ (x : ℕ). extent b.is_begun b.slices x a.behind) (eqb-true a.owed b.owed three.0)
     ∙ ap (λ (x : ℕ). extent b.is_begun b.slices b.owed x) (eqb-true a.behind b.behind three.1)))
 
+pub if-some : {X : Type 0} {P Q : X → Type 0} (o : Option X) → ((x : X) → P x → Q x) → IfSome o P → IfSome o Q
+if-some None f h = tt
+if-some (Some x) f h = f x h
+
 -- what is left was there before
 pub removed-before : (old new : LruCache (ℕ × ℕ) Relation) (key : ℕ × ℕ) → new ≡ lru_cache (remove_entry (pair_eq key) old.entries) old.cap → (k : ℕ × ℕ) (r : Relation) → Contains new.entries (k, r) → Contains old.entries (k, r)
 removed-before old new key e k r h = Contains-remove_entry (pair_eq key) old.entries (k, r) (subst (λ (c : LruCache (ℕ × ℕ) Relation). Contains c.entries (k, r)) e h)
 
-put-cases : (old : LruCache (ℕ × ℕ) Relation) (key : ℕ × ℕ) (one : Relation) (k : ℕ × ℕ) (r : Relation) → Contains (put_entries pair_eq old key one) (k, r) → Contains old.entries (k, r) ⊎ ((k ≡ key) × (r ≡ one))
+put-cases : {V : Type 0} (old : LruCache (ℕ × ℕ) V) (key : ℕ × ℕ) (one : V) (k : ℕ × ℕ) (r : V) → Contains (put_entries pair_eq old key one) (k, r) → Contains old.entries (k, r) ⊎ ((k ≡ key) × (r ≡ one))
 put-cases old key one k r h = elim (Contains-put_entries pair_eq old key one (k, r) h) [
   | inl was ↦ inl was
   | inr put ↦ inr (elim put.1 [ inl e ↦ e | inr old ↦ sym (same_pair key k old.2) ], put.0)
 ]
 
 -- after a put an entry was there before, or is the one that was put
-pub put-also : {X Y : Type 0} (res : Result X Y) (old new : LruCache (ℕ × ℕ) Relation) (key : ℕ × ℕ) (one : Relation) → OnOk res (new ≡ lru_cache (put_entries pair_eq old key one) old.cap) → OnErr res (new ≡ old)
-    → (k : ℕ × ℕ) (r : Relation) → Contains new.entries (k, r) → Contains old.entries (k, r) ⊎ ((k ≡ key) × (r ≡ one))
-put-also (Ok x) old new key one put err k r h = put-cases old key one k r (subst (λ (c : LruCache (ℕ × ℕ) Relation). Contains c.entries (k, r)) put h)
-put-also (Err x) old new key one put err k r h = inl (subst (λ (c : LruCache (ℕ × ℕ) Relation). Contains c.entries (k, r)) err h)
+pub put-also : {V X Y : Type 0} (res : Result X Y) (old new : LruCache (ℕ × ℕ) V) (key : ℕ × ℕ) (one : V) → OnOk res (new ≡ lru_cache (put_entries pair_eq old key one) old.cap) → OnErr res (new ≡ old)
+    → (k : ℕ × ℕ) (r : V) → Contains new.entries (k, r) → Contains old.entries (k, r) ⊎ ((k ≡ key) × (r ≡ one))
+put-also {V} (Ok x) old new key one put err k r h = put-cases old key one k r (subst (λ (c : LruCache (ℕ × ℕ) V). Contains c.entries (k, r)) put h)
+put-also {V} (Err x) old new key one put err k r h = inl (subst (λ (c : LruCache (ℕ × ℕ) V). Contains c.entries (k, r)) err h)
 
 -- each linkage has a number of its own
 number-own : (a b : Linkage) → number_of a ≡ number_of b → a ≡ b

@@ -1,5 +1,5 @@
 -- A replay that a tracker heard.
-use Rattle.std.proofs.Common.{◌≡◌, ℕ, ◌+◌, List, None, All, sym, ap, ◌∙◌}
+use Rattle.std.proofs.Common.{◌≡◌, ℕ, ◌+◌, List, None, All, Result, Ok, Err, IfOk, IsOk, sym, ap, ◌∙◌}
 use Rattle.arn_base.specs.declared.records.Record.{Record}
 use Rattle.rv64_model.specs.declared.linkage.Linkage.{Linkage}
 use Rattle.guest_bodies.specs.Shown.{Guests}
@@ -18,6 +18,12 @@ use Rattle.taint_laws.specs.Laws.{FollowsHolders, ToldHears, ToldHolds, ToldShow
 use Rattle.taint_state.specs.Goes.{nothing_tracked}
 use Rattle.taint_state.specs.Kept.{Kept, shown}
 use Rattle.followed_groups.specs.Follows.{Explains, Follows}
+
+-- a replay that ended well gave something
+pub replayed : (entries : List Record) (g until : ℕ) (x y : Kept) (n m : ℕ) (o : Result Guests ReplayError) → IsOk o → IfOk o (λ guests. Replays (following shown) x n (history.alone entries g until) guests y m)
+    → (guests : Guests) × Replays (following shown) x n (history.alone entries g until) guests y m
+replayed entries g until x y n m (Ok guests) is r = (guests, r)
+replayed entries g until x y n m (Err e) is r = absurd (cc)
 
 module _ (entries : List Record) (unbroken : first_broken entries ≡ None) (g until : ℕ) (x y : Kept) (n m : ℕ) (guests : Guests) (r : Replays (following shown) x n (history.alone entries g until) guests y m) where
   pub follows : (linkage : Linkage) → FollowsHolders → ToldShows shown → ToldHears shown → ToldHolds shown → All HasWholeBlocks entries → shown x ≡ nothing_tracked linkage → Follows linkage entries until g y

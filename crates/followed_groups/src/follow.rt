@@ -6,6 +6,7 @@ ghost use Rattle.followed_groups.specs.Follows.{Explains, Follows};
 ghost use Rattle.query_model.specs.Answers.{disagreement_in};
 ghost use Rattle.replayer.specs.Bounds.{ran_before};
 
+use crate::given::after;
 use arn_base::{Record, Steps};
 use history_index::Index;
 use replayer::{QueryError, replay, runs_before};
@@ -40,6 +41,6 @@ pub fn follow<L: Ledger>(
     told_hears();
     told_holds();
     let mut tracker = Tracker::new(alloc, linkage)?;
-    replay(alloc, entries, index, group, until, &mut tracker, steps)?;
-    Ok(tracker)
+    let replayed = replay(alloc, entries, index, group, until, &mut tracker, steps);
+    Ok(after(tracker, replayed)?)
 }

@@ -11,6 +11,7 @@ ghost use Rattle.replayer.specs.Bounds.{ran_before};
 
 use crate::follow::follow;
 use crate::followed::Followed;
+use crate::given::after;
 use crate::relations::Relations;
 use arn_base::{Numbers, Record, Steps};
 use group_extents::{Extent, equal_extents_make_one};
@@ -52,8 +53,7 @@ impl Relations {
             return Ok(tracker);
         }
         let tracker = follow(self.alloc, entries, index, linkage, group, until, steps)?;
-        replayed.push(group)?;
-        Ok(tracker)
+        Ok(after(tracker, replayed.push(group))?)
     }
 
     /// Follows groups up to a moment, in their order, and names those that were replayed for that.

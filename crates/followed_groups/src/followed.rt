@@ -8,6 +8,7 @@ ghost use Rattle.followed_groups.specs.Following.{Adds, AddsOnly, HasOnly, IsFol
 ghost use Rattle.followed_groups.specs.Relations.{AreOf, IsRelation, room};
 ghost use Rattle.taint_tracker.specs.Items.{listed};
 
+use crate::given::insert;
 use crate::relations::{Relation, Relations};
 use arn_base::{NoMemory, Record};
 use group_extents::Extent;
@@ -69,7 +70,7 @@ impl<'a> Followed<'a> {
         ensures adds { OnOk result (Adds group self.old self.new) }
         ensures only { OnOk result (AddsOnly group self.old self.new) }
     {
-        self.trackers.insert(group, tracker)?;
+        insert(&mut self.trackers, group, tracker)?;
         Ok(())
     }
 

@@ -6,6 +6,7 @@
 mod follow;
 mod follow_all;
 mod followed;
+mod given;
 mod law;
 mod relations;
 

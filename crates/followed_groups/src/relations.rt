@@ -3,6 +3,7 @@ ghost use Rattle.std.specs.Prelude.{◌≡◌, IfOk, IfSome, IsOk, Some};
 ghost use Rattle.followed_groups.specs.Relations as told;
 ghost use Rattle.followed_groups.specs.Relations.{HasFound, Holds, HoldsNoMore, KeepsAlso, KeepsNoMore, KeepsNothing, room};
 
+use crate::given::{only_if, put};
 use arn_base::NoMemory;
 use group_extents::Extent;
 use lru::LruCache;
@@ -42,11 +43,8 @@ fn take_from(cache: &mut Cache, key: Key, extent: Extent) -> Option<Tracker>
     ensures room { cache.new.cap ≡ cache.old.cap }
 {
     let relation = cache.pop(&key)?;
-    if relation.extent == extent {
-        Some(relation.tracker)
-    } else {
-        None
-    }
+    let same = relation.extent == extent;
+    only_if(relation.tracker, same)
 }
 
 /// The relations of groups that were asked about lately, each under its group and linkage, or none.
@@ -98,8 +96,9 @@ impl Relations {
         ensures also { KeepsAlso self.old self.new linkage group relation }
         ensures room { room self.new ≡ room self.old }
     {
-        if let Some(cache) = &mut self.cache {
-            let _ = cache.put((group, number_of(linkage)), relation);
+        match &mut self.cache {
+            Some(cache) => put(cache, (group, number_of(linkage)), relation),
+            None => drop(relation),
         }
     }
 }

@@ -12,22 +12,22 @@ invariant_of-self-2 c =
     record {
       countable = c.self.invariant.countable;
       indexed = c.self.invariant.indexed;
-      following = following-more f c.args.group c.args.tracker c.insert.new.self.entries c.self.invariant.following one c.in_ok-insert.ensures.updates.0;
+      following = following-more f c.args.group c.args.tracker c.insert.new.map.entries c.self.invariant.following one c.in_ok-insert.ensures.updates;
     }
 
 pub returns-clause-only : goal.returns-clause-only
 returns-clause-only c = λ h s.
     subst (λ (x : Following). IsSome (tracker_of x h) ⊎ (h ≡ c.args.group)) c.self.view_is
-    (only-added c.args.group c.args.tracker c.self.inside.trackers.entries c.insert.new.self.entries c.in_ok-insert.ensures.updates.0 h s)
+    (only-added c.args.group c.args.tracker c.self.inside.trackers.entries c.insert.new.map.entries c.in_ok-insert.ensures.updates h s)
 
 pub returns-clause-adds : goal.returns-clause-adds
 returns-clause-adds c =
     let i = c.self.inside in
-    let new = c.insert.new.self.entries in
+    let new = c.insert.new.map.entries in
     let old : Following = record { entries = i.entries.now; linkage = i.linkage; until = i.until; trackers = i.trackers.entries } in
     let later : Following = record { entries = i.entries.now; linkage = i.linkage; until = i.until; trackers = new } in
     subst (λ (x : Following). Adds c.args.group x later) c.self.view_is (record {
       of = record { entries_are = refl; linkage_is = refl; until_is = refl };
-      has = has-added c.args.group c.args.tracker i.trackers.entries new c.in_ok-insert.ensures.updates.0;
-      keeps = keeps-added c.args.group c.args.tracker i.trackers.entries new c.in_ok-insert.ensures.updates.0;
+      has = has-added c.args.group c.args.tracker i.trackers.entries new c.in_ok-insert.ensures.updates;
+      keeps = keeps-added c.args.group c.args.tracker i.trackers.entries new c.in_ok-insert.ensures.updates;
     })

@@ -1,7 +1,10 @@
-use Rattle.std.proofs.Common.{◌∙◌, arith, ap, refl, rules, sym, get_or, ◌++◌, ◌∷◌, [], List, ℕ}
+use Rattle.std.proofs.Common.{◌≡◌, Err, ◌∙◌, arith, ap, refl, rules, sym, get_or, ◌++◌, ◌∷◌, [], List, ℕ}
 use Rattle.std.proofs.lemmas.List.{take_more, take_all}
+use Rattle.std.proofs.lemmas.Result.{IfOk-from_err, err_from_is_err_and}
+use Rattle.query_model.specs.Answers.{first_disagreement}
+use Rattle.replay_steps.specs.declared.errors.QueryError.TheVariants as error
 use Rattle.followed_groups.proofs.Parts.{none-yet, part-all, part-more, ran-more, ran-none}
-use Rattle.followed_groups.proofs.Several.{has-all, has-more, next-agrees, only-all, only-more, ran-here, still-of}
+use Rattle.followed_groups.proofs.Several.{first-explains, has-all, has-more, next-agrees, none-left, only-all, only-more, ran-here, still-of}
 use Rattle.followed_groups.proofs.relations.Relations.follow_all.Goals as goal
 
 pub loop-group-init : goal.loop-group-init
@@ -54,3 +57,110 @@ returns-clause-part g c = part-all c.args.groups.now c.loop-group.replayed c.loo
 
 pub returns-clause-all : goal.returns-clause-all
 returns-clause-all g c = λ none. c.loop-group.invariant.all none ∙ take_all c.loop-group.group-index c.args.groups.now c.loop-group-test.false
+
+pub returns-in_err-tracker-clause-of : goal.returns-in_err-tracker-clause-of
+returns-in_err-tracker-clause-of g c = IfOk-from_err c.from_residual.result _ c.from_residual.ensures.0
+
+pub returns-in_err-tracker-clause-has : goal.returns-in_err-tracker-clause-has
+returns-in_err-tracker-clause-has g c = IfOk-from_err c.from_residual.result _ c.from_residual.ensures.0
+
+pub returns-in_err-tracker-clause-only : goal.returns-in_err-tracker-clause-only
+returns-in_err-tracker-clause-only g c = IfOk-from_err c.from_residual.result _ c.from_residual.ensures.0
+
+pub returns-in_err-tracker-clause-agree : goal.returns-in_err-tracker-clause-agree
+returns-in_err-tracker-clause-agree g c = IfOk-from_err c.from_residual.result _ c.from_residual.ensures.0
+
+pub returns-in_err-tracker-clause-part : goal.returns-in_err-tracker-clause-part
+returns-in_err-tracker-clause-part g c = IfOk-from_err c.from_residual.result _ c.from_residual.ensures.0
+
+pub returns-in_err-tracker-clause-counted : goal.returns-in_err-tracker-clause-counted
+returns-in_err-tracker-clause-counted g c = IfOk-from_err c.from_residual.result _ c.from_residual.ensures.0
+
+pub returns-in_err-tracker-clause-all : goal.returns-in_err-tracker-clause-all
+returns-in_err-tracker-clause-all g c none = IfOk-from_err c.from_residual.result _ c.from_residual.ensures.0
+
+pub returns-in_err-tracker-clause-err : goal.returns-in_err-tracker-clause-err
+returns-in_err-tracker-clause-err g c =
+    let p = err_from_is_err_and c.from_residual.result c.from_residual.ensures.1 in
+    let is : c.from_residual.result ≡ Err c.in_err-tracker.field-0.0 = p.1 ∙ ap Err p.2 in
+    rw is (first-explains c.args.entries.now c.args.until c.args.groups.now c.loop-group.group-index c.loop-group-test.true (first_disagreement c.args.entries.now c.args.until c.args.groups.now) c.in_err-tracker.field-0.0 c.loop-group.invariant.first c.in_err-tracker.ensures.err)
+
+pub returns-in_err-tracker-clause-bounded : goal.returns-in_err-tracker-clause-bounded
+returns-in_err-tracker-clause-bounded g c =
+    let here = ran-here c.args.entries.now c.args.until c.args.groups.now c.loop-group.group-index c.loop-group-test.true in
+    let before = c.loop-group.invariant.bounded in
+    let at_most = c.follow_one.ensures.bounded in
+    omega (arith, here, before, at_most)
+
+pub returns-in_err-tracker-clause-adds : goal.returns-in_err-tracker-clause-adds
+returns-in_err-tracker-clause-adds g c = λ key r h. c.loop-group.invariant.adds key r (c.follow_one.ensures.adds key r h)
+
+pub returns-in_err-tracker-clause-seen : goal.returns-in_err-tracker-clause-seen
+returns-in_err-tracker-clause-seen g c = c.follow_one.ensures.seen
+
+pub returns-in_err-tracker-clause-room : goal.returns-in_err-tracker-clause-room
+returns-in_err-tracker-clause-room g c = c.follow_one.ensures.room ∙ c.loop-group.invariant.room
+
+pub returns-in_err-add-clause-err : goal.returns-in_err-add-clause-err
+returns-in_err-add-clause-err g c =
+    let p = err_from_is_err_and c.from_residual-in_err-add.result c.from_residual-in_err-add.ensures.1 in
+    let is : c.from_residual-in_err-add.result ≡ Err error.NoMemory = p.1 ∙ ap Err p.2 in
+    rw is tt
+
+pub returns-in_err-add-clause-of : goal.returns-in_err-add-clause-of
+returns-in_err-add-clause-of g c = IfOk-from_err c.from_residual-in_err-add.result _ c.from_residual-in_err-add.ensures.0
+
+pub returns-in_err-add-clause-has : goal.returns-in_err-add-clause-has
+returns-in_err-add-clause-has g c = IfOk-from_err c.from_residual-in_err-add.result _ c.from_residual-in_err-add.ensures.0
+
+pub returns-in_err-add-clause-only : goal.returns-in_err-add-clause-only
+returns-in_err-add-clause-only g c = IfOk-from_err c.from_residual-in_err-add.result _ c.from_residual-in_err-add.ensures.0
+
+pub returns-in_err-add-clause-agree : goal.returns-in_err-add-clause-agree
+returns-in_err-add-clause-agree g c = IfOk-from_err c.from_residual-in_err-add.result _ c.from_residual-in_err-add.ensures.0
+
+pub returns-in_err-add-clause-part : goal.returns-in_err-add-clause-part
+returns-in_err-add-clause-part g c = IfOk-from_err c.from_residual-in_err-add.result _ c.from_residual-in_err-add.ensures.0
+
+pub returns-in_err-add-clause-counted : goal.returns-in_err-add-clause-counted
+returns-in_err-add-clause-counted g c = IfOk-from_err c.from_residual-in_err-add.result _ c.from_residual-in_err-add.ensures.0
+
+pub returns-in_err-add-clause-all : goal.returns-in_err-add-clause-all
+returns-in_err-add-clause-all g c none = IfOk-from_err c.from_residual-in_err-add.result _ c.from_residual-in_err-add.ensures.0
+
+pub returns-in_err-add-clause-bounded : goal.returns-in_err-add-clause-bounded
+returns-in_err-add-clause-bounded g c =
+    let here = ran-here c.args.entries.now c.args.until c.args.groups.now c.loop-group.group-index c.loop-group-test.true in
+    let before = c.loop-group.invariant.bounded in
+    let at_most = c.follow_one.ensures.bounded in
+    omega (arith, here, before, at_most)
+
+pub returns-in_err-add-clause-adds : goal.returns-in_err-add-clause-adds
+returns-in_err-add-clause-adds g c = λ key r h. c.loop-group.invariant.adds key r (c.follow_one.ensures.adds key r h)
+
+pub returns-in_err-add-clause-seen : goal.returns-in_err-add-clause-seen
+returns-in_err-add-clause-seen g c = c.follow_one.ensures.seen
+
+pub returns-in_err-add-clause-room : goal.returns-in_err-add-clause-room
+returns-in_err-add-clause-room g c = c.follow_one.ensures.room ∙ c.loop-group.invariant.room
+
+pub returns-clause-of : goal.returns-clause-of
+returns-clause-of g c = c.loop-group.invariant.of
+
+pub returns-clause-agree : goal.returns-clause-agree
+returns-clause-agree g c = c.loop-group.invariant.first ∙ none-left c.args.entries.now c.args.until c.args.groups.now c.loop-group.group-index c.loop-group-test.false
+
+pub returns-clause-counted : goal.returns-clause-counted
+returns-clause-counted g c = c.loop-group.invariant.counted
+
+pub returns-clause-bounded : goal.returns-clause-bounded
+returns-clause-bounded g c = let before = c.loop-group.invariant.bounded in omega (arith, before)
+
+pub returns-clause-adds : goal.returns-clause-adds
+returns-clause-adds g c = c.loop-group.invariant.adds
+
+pub returns-clause-seen : goal.returns-clause-seen
+returns-clause-seen g c = c.loop-group.invariant.seen
+
+pub returns-clause-room : goal.returns-clause-room
+returns-clause-room g c = c.loop-group.invariant.room
