@@ -1,5 +1,5 @@
 -- Answers on the records of a run.
-use Rattle.std.proofs.Common.{◌≡◌, ◌∙◌, ℕ, zero, suc, ◌<◌, ◌≤◌, ◌&&◌, nat_le, nat_lt, Bool, true, false, if◌then◌else◌, List, [], ◌∷◌, ◌++◌, length, filter, Option, Some, None, is_some, refl, sym, ap, ap₂, arith, sum_by, ◌↔◌, Contains, slice_get}
+use Rattle.std.proofs.Common.{◌≡◌, ◌∙◌, ℕ, zero, suc, ◌<◌, ◌≤◌, ◌&&◌, nat_le, nat_lt, Bool, true, false, if◌then◌else◌, List, [], ◌∷◌, ◌++◌, length, filter, Option, Some, None, is_some, refl, ap, ap₂, arith, sum_by, ◌↔◌, Contains, slice_get}
 use Rattle.std.proofs.lemmas.List.Elements.{All-cons, All-head, All-nil, All-tail}
 use Rattle.std.proofs.lemmas.List.Sums.{sum_by-cons}
 use Rattle.std.specs.List.{All, flat_map, range_with_len, sum}
@@ -8,7 +8,7 @@ use Rattle.arn_base.specs.declared.records.Pair.{Pair}
 use Rattle.arn_base.specs.declared.records.Record.{Record}
 use Rattle.rv64_model.specs.Carries.{operands}
 use Rattle.rv64_model.specs.declared.linkage.Linkage.{Linkage}
-use Rattle.rv64_model.specs.declared.linkage.Linkage.TheVariants.{Copy, Data}
+use Rattle.rv64_model.specs.declared.linkage.Linkage.TheVariants.{Data}
 use Rattle.arn_lines.specs.declared.answer.Refusal.TheVariants.{NoPoint}
 use Rattle.arn_lines.specs.declared.line.Aspect.{Aspect}
 use Rattle.arn_lines.specs.declared.line.Aspect.TheVariants as aspect
@@ -22,7 +22,7 @@ use Rattle.arn_model.specs.Tells.{lives}
 use Rattle.history_index.specs.Lookups.{groups_in, members_of, processes_in}
 use Rattle.history_model.specs.Alone.{Disagrees, Made}
 use Rattle.history_model.specs.Events.{event_at, events, how_many, is_range}
-use Rattle.history_model.specs.Moments.{lives_at, segment_at, total}
+use Rattle.history_model.specs.Moments.{lives_at, segment_at}
 use Rattle.log_model.specs.Laws.{RecordsAreRun}
 use Rattle.log_model.specs.Records.{records}
 use Rattle.log_store.specs.Log.{spellings}
@@ -30,7 +30,7 @@ use Rattle.log_store.specs.declared.size.TheConstants.{MOST_LOG}
 use Rattle.past_lives.specs.Members.{is_member, is_memory_range, is_moment, is_present}
 use Rattle.parts_model.specs.declared.limits.TheConstants.{MOST_ASKED}
 use Rattle.parts_model.specs.declared.tagged.TaggedByte.{TaggedByte}
-use Rattle.query_engine.specs.Asked.{in_file, in_memory, in_register}
+use Rattle.query_engine.specs.Asked.{in_file}
 use Rattle.followed_pairs.specs.States.{is_held}
 use Rattle.query_laws.specs.ForthOfRuns.{ForthIsOfRuns, IsSinkPair}
 use Rattle.query_laws.specs.Names.{NamesAreOfRuns}
@@ -47,7 +47,7 @@ use Rattle.generator.specs.Sums.{gen_text, written}
 use Rattle.report_texts.specs.Totals.{events_line, group_line, groups_line}
 use Rattle.session_questions.specs.Asked.{unless_damaged, unless_refused}
 use Rattle.session_questions.specs.Generated.{Write, generated_text, pairs_of, unless_one_refused, writes}
-use Rattle.session_questions.specs.OfRuns.{living, run_back_text, run_bytes_text, run_event_text, run_first_events, run_forth_text, run_generated_text, run_group_text, run_groups_text, run_held_text, run_named_text, run_pairs, run_pairs_of, run_show_text, run_sources_text, run_text, unless_one_long}
+use Rattle.session_questions.specs.OfRuns.{run_back_text, run_bytes_text, run_event_text, run_first_events, run_forth_text, run_generated_text, run_group_text, run_groups_text, run_held_text, run_named_text, run_pairs_of, run_show_text, run_sources_text, run_text, unless_one_long}
 use Rattle.session_questions.specs.Short.{ShortRunsHaveNumbers}
 use Rattle.session_questions.specs.Texts.{answer_text, back_telling, bytes_answer, event_telling, forth_telling, held_telling, held_text, named_telling, question_text, show_telling, sinks_text, sources_text, written_text}
 use Rattle.session_reports.specs.Events.{event_text, event_there, events_text}

@@ -1,5 +1,5 @@
 -- What is told of targets of the engine: of those that bytes are, and of those that were asked.
-use Rattle.std.proofs.Common.{◌≡◌, ◌∙◌, ◌++◌, ◌⊎◌, inl, inr, ◌≤◌, ◌+◌, ◌^◌, ℕ, Bool, true, false, if◌then◌else◌, List, Option, Some, None, IfSome, ap, sym, subst, arith}
+use Rattle.std.proofs.Common.{◌≡◌, ◌≢◌, ◌∙◌, ◌++◌, ◌⊎◌, inl, inr, ◌≤◌, ◌+◌, ◌^◌, ℕ, Bool, true, false, if◌then◌else◌, List, Option, Some, None, IfSome, Result, Ok, Err, OnOk, refl, ap, sym, subst, arith}
 use Rattle.std.specs.Prelude.{IfNone}
 use Rattle.arn_base.specs.declared.records.Pair.{Pair}
 use Rattle.arn_base.specs.declared.records.Record.{Record}
@@ -12,7 +12,7 @@ use Rattle.history_model.specs.Events.{event_at, is_range}
 use Rattle.parts_model.specs.declared.tagged.TaggedByte.{TaggedByte}
 use Rattle.query_engine.specs.Asked.{Answers, Fails, RunsNothing, in_file, in_memory, in_register, ran_about, ran_for, ran_for_bytes, ran_for_held}
 use Rattle.query_engine.specs.Forth.{AnswersForth, ran_forth}
-use Rattle.query_engine.specs.Names.{AnswersBytes}
+use Rattle.query_engine.specs.Names.{AnswersBytes, FailsBytes}
 use Rattle.followed_pairs.specs.States.{is_held}
 use Rattle.query_engine.specs.States.{AnswersHeld, FailsHeld}
 use Rattle.query_engine.specs.declared.engine.Answer.{Answer}
@@ -32,6 +32,7 @@ use Rattle.session_questions.specs.Asked.{unless_damaged}
 use Rattle.session_questions.specs.Texts.{Telling, answer_text, bytes_answer, event_telling, forth_telling, held_telling, held_text, named_telling, reached_text, sinks_text, sources_text, target_telling, written_text}
 use Rattle.session_questions.proofs.Far.{far_memory, far_register, long_memory, many_bytes, no_register}
 use Rattle.session_reports.specs.Far.{FarIsNowhere}
+use Rattle.session_reports.specs.Refused.{error_text}
 
 -- what is told of bytes, by whether they are there and whether something disagrees
 abbrev text-if : Bool → Option Disagrees → List ℕ → List ℕ
@@ -119,6 +120,43 @@ module _ (linkage : Linkage) (entries : List Record) where
   cost-failed (target.Mem moment pid at len) why old new f same within = held-cost (in_memory moment pid at len) why old new f same within
   cost-failed (target.Reg moment pid reg) why old new f same within = held-cost (in_register moment pid reg) why old new f same within
   cost-failed (target.Name moment name from len) why old new f same within = within
+
+  pub cost-answered : (t : Target) (a : Answer) (old new : ℕ) → Answers linkage entries t a → new ≤ old + ran_about entries t → new ≤ old + (target_telling linkage entries (Some t)).cost
+  cost-answered (target.Event event from len) a old new p within = cost-if (is_range (event_at entries event) from len) (ran_for entries event) old new p.range within
+  cost-answered (target.Mem moment pid at len) a old new p within = cost-if (is_held entries (in_memory moment pid at len)) (ran_for_held entries (in_memory moment pid at len)) old new p.there within
+  cost-answered (target.Reg moment pid reg) a old new p within = cost-if (is_held entries (in_register moment pid reg)) (ran_for_held entries (in_register moment pid reg)) old new p.there within
+  cost-answered (target.Name moment name from len) a old new p within = within
+
+  -- what is put where nothing was answered
+  held-failed : (held : Held) (why : QueryError) → FailsHeld entries held why → why ≢ error.NoMemory → (held_telling (operands linkage) entries held).text ≡ error_text why
+  held-failed held error.NoPoint f known = ap (λ (b : Bool). text-if b (held_disagreement entries held) (held_text (operands linkage) entries held)) f
+  held-failed held (error.Disagrees d) f known =
+      ap (λ (b : Bool). text-if b (held_disagreement entries held) (held_text (operands linkage) entries held)) f.0
+      ∙ ap (λ (o : Option Disagrees). unless_damaged o (held_text (operands linkage) entries held)) f.1
+  held-failed held error.NoMemory f known = absurd (known refl)
+
+  bytes-failed : (moment : ℕ) (o : Option (List TaggedByte)) (why : QueryError) → FailsBytes entries moment o why → why ≢ error.NoMemory → bytes_answer (operands linkage) entries moment o ≡ error_text why
+  bytes-failed moment o error.NoPoint f known = ap (bytes_answer (operands linkage) entries moment) f
+  bytes-failed moment None (error.Disagrees d) f known = absurd f
+  bytes-failed moment (Some bytes) (error.Disagrees d) f known = ap (λ (o : Option Disagrees). unless_damaged o (written_text (operands linkage) entries moment bytes)) f
+  bytes-failed moment o error.NoMemory f known = absurd (known refl)
+
+  failed : (t : Target) (why : QueryError) → Fails entries t why → why ≢ error.NoMemory → (target_telling linkage entries (Some t)).text ≡ error_text why
+  failed (target.Event event from len) error.NoPoint f known = ap (λ (b : Bool). text-if b (event_disagreement entries event) (sources_text (operands linkage) entries event from len)) f
+  failed (target.Event event from len) (error.Disagrees d) f known =
+      ap (λ (b : Bool). text-if b (event_disagreement entries event) (sources_text (operands linkage) entries event from len)) f.0
+      ∙ ap (λ (o : Option Disagrees). unless_damaged o (sources_text (operands linkage) entries event from len)) f.1
+  failed (target.Event event from len) error.NoMemory f known = absurd (known refl)
+  failed (target.Mem moment pid at len) why f known = held-failed (in_memory moment pid at len) why f known
+  failed (target.Reg moment pid reg) why f known = held-failed (in_register moment pid reg) why f known
+  failed (target.Name moment name from len) why f known = bytes-failed moment (named_bytes entries (in_file moment name from len)) why f known
+
+  pub put-failed : {X Y : Type 0} (r : Result X Y) (told : Telling) (t : Target) (why : QueryError) (old new : List ℕ) → told ≡ target_telling linkage entries (Some t) → Fails entries t why → OnOk r (new ≡ old ++ error_text why) → OnOk r (why ≢ error.NoMemory) → OnOk r (new ≡ old ++ told.text)
+  put-failed (Ok x) told t why old new is f put known = put ∙ ap (λ (text : List ℕ). old ++ text) (sym (ap (λ (x : Telling). x.text) is ∙ failed t why f known))
+  put-failed (Err e) told t why old new is f put known = tt
+
+  pub put-refused : (told : Telling) (old new : List ℕ) → told ≡ target_telling linkage entries None → new ≡ old ++ refusal_text NoPoint → new ≡ old ++ told.text
+  put-refused told old new is put = put ∙ ap (λ (x : Telling). old ++ x.text) (sym is)
 
 -- what was answered of the bytes that bytes of an event reach
 pub forth-put : (linkage : Linkage) (entries : List Record) (event from len : ℕ) (a : Answer) (old new : List ℕ) → AnswersForth linkage entries event from len a → new ≡ old ++ reached_text a.pairs a.instructions a.groups

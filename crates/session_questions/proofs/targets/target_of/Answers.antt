@@ -5,8 +5,7 @@ use Rattle.query_engine.specs.Asked.{in_file}
 use Rattle.query_engine.specs.declared.engine.Target.{Target}
 use Rattle.query_engine.specs.declared.engine.Target.TheVariants as target
 use Rattle.rv64_model.specs.Carries.{operands}
-use Rattle.rv64_model.specs.declared.linkage.Linkage.{Linkage}
-use Rattle.session_questions.specs.Texts.{Telling, back_telling, named_telling, target_telling}
+use Rattle.session_questions.specs.Texts.{back_telling, named_telling, target_telling}
 use Rattle.session_questions.proofs.Sought.{event-told, memory-told, name-told, register-told}
 use Rattle.session_questions.proofs.targets.target_of.Goals as goal
 

@@ -1,4 +1,4 @@
-use Rattle.std.proofs.Common.{◌≡◌, ◌+◌, ◌*◌, ◌^◌, ◌≤◌, drop}
+use Rattle.std.proofs.Common.{◌+◌, ◌*◌, ◌^◌, ◌≤◌, drop}
 use Rattle.session_questions.proofs.Written.{Leaves}
 use Rattle.session_questions.specs.Knows.{Knows}
 use Rattle.session_questions.specs.Generated.{writes_cost, generated_cost, writes_from}
