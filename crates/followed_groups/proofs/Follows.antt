@@ -1,5 +1,5 @@
 -- A replay that a tracker heard.
-use Rattle.std.proofs.Common.{◌≡◌, ℕ, ◌+◌, List, None, All, Result, Ok, Err, IfOk, IsOk, sym, ap, ◌∙◌}
+use Rattle.std.proofs.Common.{◌≡◌, ℕ, ◌+◌, List, None, All, Result, Ok, Err, IfOk, IsOk, OnOk, sym, ap, ◌∙◌}
 use Rattle.arn_base.specs.declared.records.Record.{Record}
 use Rattle.rv64_model.specs.declared.linkage.Linkage.{Linkage}
 use Rattle.guest_bodies.specs.Shown.{Guests}
@@ -39,6 +39,11 @@ module _ (entries : List Record) (unbroken : first_broken entries ≡ None) (g u
 
   pub counted : RunsBefore → m ≡ n + ran_before entries g until
   counted runs = r.counted ∙ ap (λ (k : ℕ). n + k) (runs.exact entries g until r.own unbroken r.makes)
+
+-- what is said of a result that is there
+pub on-ok : {X Y : Type 0} (r : Result X Y) (P : Type 0) → IsOk r → OnOk r P → P
+on-ok (Ok x) P is h = h
+on-ok (Err e) P is h = absurd (cc)
 
 pub explained : (made : Made) (e : ReplayError) → standing.Explains made e → Explains (disagreement_in made) (asked e)
 explained made (replay_error.Disagrees d) h = ap disagreement_in h
