@@ -1,9 +1,8 @@
 -- Instructions of which an observer is told, where what comes behind them changes nothing.
-use Rattle.std.proofs.Common.{◌≡◌, ◌<◌, ◌≤◌, ◌+◌, ℕ, zero, suc, List, Result, Ok, Err, OnErr, add-one, arith, subst, sym}
+use Rattle.std.proofs.Common.{◌≡◌, ◌<◌, ◌+◌, ℕ, zero, suc, List, Result, Ok, Err, OnErr, arith}
 use Rattle.arn_base.specs.Window.{Window}
 use Rattle.arn_base.specs.declared.machine.Cpu.{Cpu}
 use Rattle.rv64_isa.specs.declared.instruction.Instr.{Instr}
-use Rattle.rv64_model.specs.Instruction.{Next, instruction}
 use Rattle.guest_bodies.specs.Led.{LedFails, LedMany}
 
 module _ {M A : Type 0} (windows : M → List Window) (runs : A → ℕ → Instr → Cpu → A → Type 0) (p : ℕ) (cpu cpu' cpu'' : Cpu) (memory memory' memory'' : M) (x y : A) (e : cpu'' ≡ cpu') (f : windows memory'' ≡ windows memory') where
@@ -21,29 +20,6 @@ module _ {M A : Type 0} (windows : M → List Window) (runs : A → ℕ → Inst
         less = less;
         counted = counted;
       }
-
--- one more
-pub led-more : {M A : Type 0} (windows : M → List Window) (runs : A → ℕ → Instr → Cpu → A → Type 0) (p n : ℕ) (cpu cpu' cpu'' : Cpu) (memory memory' memory'' : M) (x y z : A) (instr : Instr) → LedMany windows runs p n cpu memory x cpu' memory' y
-    → instruction cpu' (windows memory') ≡ Next instr cpu'' (windows memory'') → runs y p instr cpu' z → LedMany windows runs p (n + 1) cpu memory x cpu'' memory'' z
-led-more windows runs p n cpu cpu' cpu'' memory memory' memory'' x y z instr before leads told =
-    subst (λ (k : ℕ). LedMany windows runs p k cpu memory x cpu'' memory'' z) (sym (add-one n)) (record {
-      cpu_between = cpu';
-      memory_between = memory';
-      observer_between = y;
-      instr = instr;
-      before = before;
-      leads = leads;
-      told = told;
-    })
-
-pub counted-more : (start before n now : ℕ) → before ≡ start + n → now ≡ before + 1 → now ≡ start + (n + 1)
-counted-more start before n now counted tick = omega arith
-
-pub counted-few : (start before n now count : ℕ) → before ≡ start + n → now ≡ before + 1 → n < count → now ≤ start + count
-counted-few start before n now count counted tick less = omega arith
-
-pub counted-last : (start before n now : ℕ) → before ≡ start + n → now ≡ before + 1 → now ≡ start + n + 1
-counted-last start before n now counted tick = omega arith
 
 -- what holds in any case holds after an error
 pub on-err : {T E P : Type 0} (r : Result T E) → P → OnErr r P

@@ -1,5 +1,5 @@
 // Instructions of which an observer is told.
-ghost use Rattle.std.specs.Prelude.{◌≡◌, ◌≤◌, ◌<◌, ◌+◌, IfOk, OnOk, OnErr};
+ghost use Rattle.std.specs.Prelude.{◌≡◌, ◌≤◌, ◌<◌, ◌+◌, IfOk, OnErr};
 ghost use Rattle.guest_bodies.specs.Led.{LedFails, LedMany};
 ghost use Rattle.guest_bodies.specs.Told.{IsStop};
 ghost use Rattle.rv64_model.specs.Instruction.{instruction};
@@ -15,21 +15,6 @@ use std::sync::ledger::Ledger;
 pub struct Stretch {
     pub pid: u32,
     pub count: u32,
-}
-
-// Tells the observer of an instruction. All arms are the same: what the observer does with each kind of
-// instruction is compiled by itself.
-#[inline(always)]
-fn tell<O: Observer>(observer: &mut O, pid: u32, instr: &Instr, cpu: &Cpu) -> Result<(), NoMemory>
-    ensures { OnOk result (O.runs observer.old pid instr.now cpu.now observer.new) }
-{
-    match instr {
-        Instr::Load { .. } => observer.instruction(pid, instr, cpu),
-        Instr::Store { .. } => observer.instruction(pid, instr, cpu),
-        Instr::Imm { .. } => observer.instruction(pid, instr, cpu),
-        Instr::Op { .. } => observer.instruction(pid, instr, cpu),
-        _ => observer.instruction(pid, instr, cpu),
-    }
 }
 
 /// Runs so many instructions, or fewer where the next one doesn't follow, and says how many. The
@@ -60,7 +45,15 @@ pub fn run_told<M: Memory, O: Observer, L: Ledger>(
         let Prospect::Next(planned) = next_instr_with(cpu, memory, decoder, steps) else {
             return Ok(ran);
         };
-        tell(observer, stretch.pid, &planned.instr, cpu)?;
+        // All arms are the same: what the observer does with each kind of instruction is compiled by
+        // itself.
+        match planned.instr {
+            Instr::Load { .. } => observer.instruction(stretch.pid, &planned.instr, cpu)?,
+            Instr::Store { .. } => observer.instruction(stretch.pid, &planned.instr, cpu)?,
+            Instr::Imm { .. } => observer.instruction(stretch.pid, &planned.instr, cpu)?,
+            Instr::Op { .. } => observer.instruction(stretch.pid, &planned.instr, cpu)?,
+            _ => observer.instruction(stretch.pid, &planned.instr, cpu)?,
+        }
         execute(&planned, cpu, memory)?;
     }
     Ok(stretch.count)
