@@ -3,7 +3,7 @@ use Rattle.std.specs.Prelude.{◌≡◌, ℕ, ◌*◌, ◌<◌, ◌^◌, List, �
 use Rattle.arn_base.specs.declared.machine.Block.{Block}
 use Rattle.arn_base.specs.declared.machine.Cpu.{Cpu}
 use Rattle.arn_base.specs.declared.records.Start.{Start}
-use Rattle.schedule_log.specs.Fields.{field, flag_field}
+use Rattle.schedule_log.specs.Fields.{field}
 use Rattle.result_log.specs.declared.starts.TheConstants.{BLOCK_LEN, REGISTERS}
 
 -- registers: each in eight bytes

@@ -1,4 +1,3 @@
-use Rattle.std.proofs.Common.{rules}
 use Rattle.result_log.proofs.Starting.{no-signal}
 use Rattle.result_log.proofs.get.get_signal.Goals as goal
 

@@ -1,4 +1,3 @@
-use Rattle.result_log.specs.Laws.{SpelledOneWay}
 use Rattle.result_log.proofs.Places.{reads-bytes, reads-one, reads-to-its-end, spelled-where-read}
 use Rattle.result_log.proofs.Records.{record-one}
 use Rattle.result_log.proofs.law.records_spelled_one_way.Goals as goal

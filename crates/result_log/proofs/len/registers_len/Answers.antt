@@ -1,4 +1,4 @@
-use Rattle.std.proofs.Common.{rules, arith}
+use Rattle.std.proofs.Common.{arith}
 use Rattle.result_log.proofs.OneWay.{length-registers}
 use Rattle.result_log.proofs.len.registers_len.Goals as goal
 

@@ -1,5 +1,4 @@
-use Rattle.std.proofs.Common.{rules, ◌≡◌, ℕ, ◌<◌, ◌*◌, List, [], ◌∷◌, ◌++◌, length, refl, ap, length-append, arith}
-use Rattle.schedule_log.specs.Fields.{field}
+use Rattle.std.proofs.Common.{◌≡◌, ℕ, ◌<◌, List, ◌++◌, length, ap, length-append, arith}
 use Rattle.result_log.specs.States.{registers_fields, BeginsRegisters}
 use Rattle.result_log.proofs.OneWay.{length-registers}
 use Rattle.result_log.proofs.starts.split_cpu.Goals as goal

@@ -1,4 +1,4 @@
-use Rattle.std.proofs.Common.{rules, ◌≡◌, ◌≤◌, ℕ, List, ◌++◌, length, take, drop, sym, ap, ◌∙◌, length-take, arith}
+use Rattle.std.proofs.Common.{rules, ◌≡◌, ◌≤◌, ℕ, List, ◌++◌, length, take, drop, sym, ap, length-take, arith}
 use Rattle.std.proofs.lemmas.List.{take-append-drop}
 use Rattle.result_log.proofs.starts.split_page.Goals as goal
 

@@ -1,6 +1,6 @@
-use Rattle.std.proofs.Common.{rules, ◌≡◌, ℕ, ◌<◌, ◌≤◌, ◌*◌, List, [], ◌∷◌, ◌++◌, length, take, refl, sym, ap, ◌∙◌, length-append, length-take, arith}
+use Rattle.std.proofs.Common.{◌≡◌, ℕ, ◌<◌, List, ◌++◌, length, take, sym, ap, ◌∙◌, length-append, length-take, arith}
 use Rattle.std.proofs.lemmas.List.{take_all}
-use Rattle.result_log.specs.States.{registers_fields, IsRegister}
+use Rattle.result_log.specs.States.{registers_fields}
 use Rattle.result_log.proofs.OneWay.{length-registers}
 use Rattle.result_log.proofs.starts.split_registers.Goals as goal
 

@@ -1,4 +1,4 @@
-use Rattle.std.proofs.Common.{◌≡◌, ℕ, ◌<◌, ◌*◌, List, ◌++◌, length, ap, length-append, arith}
+use Rattle.std.proofs.Common.{◌≡◌, ℕ, ◌<◌, List, ◌++◌, length, ap, length-append, arith}
 use Rattle.std.specs.Prelude.{Option}
 use Rattle.arn_base.specs.declared.machine.Cpu.{Cpu}
 use Rattle.result_log.specs.States.{cpu_fields, BeginsStart}
