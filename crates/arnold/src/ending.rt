@@ -2,7 +2,7 @@
 ghost use Rattle.std.specs.Prelude.{◌≡◌, None};
 
 use arn_session::Status;
-use log_disk::Failure;
+use host_disk::Failure;
 use std::{fmt, io};
 
 /// The error of the system for which a session ended.

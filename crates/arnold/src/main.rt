@@ -15,7 +15,7 @@ use arn_words::refusal_text;
 use ending::{Cause, Ending};
 use guest_devices::{EntropyDevice, RoundChooser, SeededChooser, SilentDevice};
 use host_clock::ClockDevice;
-use log_disk::FileDisk;
+use host_disk::FileDisk;
 use std::alloc::Global;
 use std::env::{self, Env};
 use std::fs::File;

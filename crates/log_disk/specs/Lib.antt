@@ -1,5 +1,4 @@
 pub mod Crash
-pub mod HostErrors
 pub mod Image
 pub mod InMemory
 pub mod Laws

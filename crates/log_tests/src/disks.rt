@@ -3,7 +3,8 @@ ghost use Rattle.log_disk.specs.InMemory.{fresh};
 
 use crate::same::assert_same;
 use arn_base::{Bytes, Disk, Failed, NoMemory, Numbers, Stop};
-use log_disk::{Attempt, FileDisk, FuseDisk, MemDisk};
+use host_disk::{Attempt, FileDisk};
+use log_disk::{FuseDisk, MemDisk};
 use std::alloc::Global;
 use std::fs;
 use std::process::Abort;

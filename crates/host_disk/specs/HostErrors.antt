@@ -4,7 +4,7 @@ use Rattle.std.specs.declared.io.ErrorKind.{ErrorKind}
 use Rattle.std.specs.declared.io.ErrorKind.TheVariants.{OutOfMemory}
 use Rattle.arn_base.specs.declared.errors.Stop.{Stop}
 use Rattle.arn_base.specs.declared.errors.Stop.TheVariants.{Failed, NoMemory}
-use Rattle.log_disk.specs.declared.file_disk.Failures.{Failures}
+use Rattle.host_disk.specs.declared.file_disk.Failures.{Failures}
 
 -- want of memory, or else a failure
 abbrev pub stop_of : ErrorKind → Stop

@@ -2,7 +2,7 @@
 ghost use Rattle.std.specs.Prelude.{◌≡◌, ◌<◌, None, Some, Ok, Err, IfOk, IfErr, OnErr, IsSome};
 ghost use Rattle.std.specs.IoError.{error_kind};
 ghost use Rattle.arn_base.specs.Faults.{Rose, NeverFalls};
-ghost use Rattle.log_disk.specs.HostErrors.{stop_of, times};
+ghost use Rattle.host_disk.specs.HostErrors.{stop_of, times};
 
 use crate::failure::Failure;
 use crate::host_file::HostFile;
@@ -94,7 +94,7 @@ fn counted<T>(failures: &mut Option<Failures>, answer: Result<T, Failure>) -> Re
 
 impl<R: Files<File = File> + Clone + Drop> Disk for FileDisk<R> {
     ghost use Rattle.std.specs.Prelude.{None, true};
-    ghost use Rattle.log_disk.specs.HostErrors.{times};
+    ghost use Rattle.host_disk.specs.HostErrors.{times};
 
     ghost image = { λ _. None };
 
