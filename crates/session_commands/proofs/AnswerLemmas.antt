@@ -1,11 +1,12 @@
 -- Answers to commands, and where they halt.
-use Rattle.std.proofs.Common.{◌≡◌, inl, inr, ℕ, ◌+◌, ◌≤◌, ◌++◌, Bool, true, false, List, [], Option, None, Some, option_map, Result, Ok, Err, IfErr, OnOk, refl, sym, ap, ◌∙◌, subst, append-nil, arith, ◌||◌}
+use Rattle.std.proofs.Common.{◌≡◌, inl, inr, ℕ, ◌+◌, ◌≤◌, ◌++◌, Bool, true, false, List, [], Option, None, Some, option_map, Result, Ok, Err, IfErr, IsErrAnd, OnOk, refl, sym, ap, ◌∙◌, subst, append-nil, arith, ◌||◌}
 use Rattle.std.proofs.lemmas.Bool.{false≢true}
 use Rattle.arn_base.specs.declared.boxes.Choice.{Choice}
 use Rattle.arn_base.specs.declared.disk.Disk.{Ghosts}
 use Rattle.arn_base.specs.declared.records.Record.{Record}
-use Rattle.arn_base.specs.Faults.{Rose}
+use Rattle.arn_base.specs.Faults.{NeverFalls, Rose}
 use Rattle.log_model.specs.Records.{IsRun}
+use Rattle.log_store.specs.Stops.{GoesOn}
 use Rattle.log_store.specs.Stores.{StoreState}
 use Rattle.arn_commands.specs.declared.command.Command.{Command}
 use Rattle.session_effects.specs.Carrying.{StopsBetween}
@@ -50,6 +51,14 @@ text-cause halt.Disk d0 d1 s0 s1 causes = absurd (never-rose (causes 0))
 text-cause (halt.Full log payload) d0 d1 s0 s1 causes = causes 0
 text-cause _ d0 d1 s0 s1 causes = absurd (causes 0)
 
+pub put-cause : {T : Type 0} (result : Result T Halt) (d0 d1 s0 s1 : ℕ) → IfErr result (λ why. (faults : ℕ) → IsCause why faults faults s0 s1) → IfErr result (λ why. IsCause why d0 d1 s0 s1)
+put-cause (Ok x) d0 d1 s0 s1 causes = tt
+put-cause (Err halt.NoMemory) d0 d1 s0 s1 causes = tt
+put-cause (Err halt.Sink) d0 d1 s0 s1 causes = causes 0
+put-cause (Err halt.Disk) d0 d1 s0 s1 causes = absurd (never-rose (causes 0))
+put-cause (Err (halt.Full log payload)) d0 d1 s0 s1 causes = causes 0
+put-cause (Err _) d0 d1 s0 s1 causes = absurd (causes 0)
+
 -- what puts no text halts by no fault of the sink, whatever the sink did before
 pub disk-cause : (why : Halt) (d0 d1 s0 s1 : ℕ) → ((faults : ℕ) → IsCause why d0 d1 faults faults) → IsLineCause why d0 d1 s0 s1
 disk-cause halt.NoMemory d0 d1 s0 s1 causes = tt
@@ -81,6 +90,18 @@ or-false false n none = sym none
 pub OnOk-always : {T P : Type 0} (result : Result T Halt) → P → OnOk result P
 OnOk-always (Ok x) is = is
 OnOk-always (Err e) is = tt
+
+-- nothing is asked of a result that is an error
+pub OnOk-never : {T : Type 0} (P : Type 0) (result : Result T Halt) (why : Halt) → IsErrAnd result (λ halt. halt ≡ why) → OnOk result P
+OnOk-never P (Ok x) why is = absurd is
+OnOk-never P (Err e) why is = tt
+
+-- a count of faults that stands, and a disk that tells what it did
+pub falls-same : (faults : ℕ) → NeverFalls faults faults
+falls-same faults = record { no_less = omega arith; stands_still = λ is. refl }
+
+pub goes-same : {D : Type 0} (image : D → Option (List ℕ)) (faults : D → ℕ) (disk : D) → GoesOn image faults disk disk
+goes-same image faults disk = record { tells = refl; never_falls = falls-same (faults disk) }
 
 pub or-true : (b n : Bool) → n ≡ true → true ≡ (b || n)
 or-true true n one = refl

@@ -14,6 +14,7 @@ use Rattle.arn_lines.specs.declared.answer.Refusal.{Refusal}
 use Rattle.arn_lines.specs.declared.answer.RunEnd.{RunEnd}
 use Rattle.arn_lines.specs.declared.line.Line.{Line}
 use Rattle.arn_lines.specs.declared.line.Line.TheVariants as line
+use Rattle.arn_lines.specs.declared.line.Question.{Question}
 use Rattle.arn_lines.specs.Texts.{event_text, refusal_text}
 use Rattle.arn_commands.specs.declared.command.Command.{Command}
 use Rattle.arn_commands.specs.declared.command.Command.TheVariants.{Generates, PassedOver, Says}
@@ -216,3 +217,12 @@ cost-machine g is_there history behind l needs is = omega (arith, cost-changed g
 
 pub cost-told : (g : Given) (is_there : Bool) (history behind : List Record) (l : Line) → (row_of g history l).cost ≤ cost g is_there history behind (Says l)
 cost-told g is_there history behind l = omega arith
+
+-- there are no other lines
+pub no-others : (l : Line) → ((name bytes : List ℕ) → l ≡ line.File name bytes → ⊥) → ((name : List ℕ) → l ≡ line.Boot name → ⊥) → ((bytes : List ℕ) → l ≡ line.Type bytes → ⊥) → ((question : Question) → l ≡ line.Asks question → ⊥) → ((count : ℕ) → l ≡ line.Run count → ⊥) → ((device : ℕ) → l ≡ line.Unplug device → ⊥) → ⊥
+no-others (line.File name bytes) file boot typed asks run unplug = file name bytes refl
+no-others (line.Boot name) file boot typed asks run unplug = boot name refl
+no-others (line.Type bytes) file boot typed asks run unplug = typed bytes refl
+no-others (line.Run count) file boot typed asks run unplug = run count refl
+no-others (line.Unplug device) file boot typed asks run unplug = unplug device refl
+no-others (line.Asks question) file boot typed asks run unplug = asks question refl

@@ -1,8 +1,11 @@
 // What commands do.
 ghost use Rattle.std.specs.Prelude.{◌≡◌, ◌||◌, ◌+◌, ◌≤◌, ◌++◌, ℕ, Bool, List, [], All, None, OnOk, IfErr, false, is_some, option_map, string_bytes, true};
 ghost use Rattle.arn_base.specs.Faults.{NeverFalls};
+ghost use Rattle.arn_base.specs.declared.records.Record.{Record};
 ghost use Rattle.arn_commands.specs.Sizes.{Fits, LineFits};
 ghost use Rattle.arn_commands.specs.declared.command.Command.TheVariants.{Says};
+ghost use Rattle.arn_lines.specs.declared.line.Line.TheVariants.{Asks, Run, Unplug};
+ghost use Rattle.arn_lines.specs.declared.line.Question.{Question};
 ghost use Rattle.log_model.specs.Records.{IsRun};
 ghost use Rattle.result_log.specs.Spelling.{HasSpelling};
 ghost use Rattle.session_effects.specs.Outside.{GoesOnOutside, IsCauseOutside};
@@ -10,10 +13,11 @@ ghost use Rattle.session_effects.specs.Printing.{StopsPut};
 ghost use Rattle.session_effects.specs.Standing.{IsCause, IsOpen};
 ghost use Rattle.session_commands.specs.Answering.{BlamesRightly, IsAnswered, IsHalted, IsLineCause};
 ghost use Rattle.session_commands.specs.Cost.{machine_cost};
+ghost use Rattle.session_commands.specs.Events.{IncomingFits, incoming_refusal, input_of};
 ghost use Rattle.session_commands.specs.Given.{Given, given};
 ghost use Rattle.session_commands.specs.Kept.{IsSound, IsThere};
 ghost use Rattle.session_commands.specs.Lines.{needs_machine};
-ghost use Rattle.session_commands.specs.Rows.{LineTells, row_of};
+ghost use Rattle.session_commands.specs.Rows.{LineTells, becomes, row_of};
 ghost use Rattle.session_model.specs.Questions.{Told};
 ghost use Rattle.session_runs.specs.Ready.{IsReady};
 ghost use Rattle.session_runs.specs.Standing.{HaltsBehind, Proceeds, standing};
@@ -79,18 +83,28 @@ pub fn answer<Q: Questions, C: Chooser, A: Plugs, D: Disk, K: Sink, L: Ledger>(
     effects_follow::<MachineRuns, D>();
     halts_follow::<MachineRuns, D>();
     if let Some(why) = command_refusal(kept.store.entries(), &command, &*outside.answers) {
+        drop(command);
         return print_refusal(outside.text, why, outside.sink);
     }
-    match command {
-        Command::PassedOver => Ok(()),
-        Command::Says { line } => answer_line(kept, &line, outside),
+    match &command {
+        Command::PassedOver => {
+            drop(command);
+            Ok(())
+        }
+        Command::Says { line } => {
+            let answered = answer_line(kept, line, outside);
+            drop(command);
+            answered
+        }
         Command::Generates {
             image,
             typed,
             processes,
         } => {
             let (image, typed) = (image.as_slice(), typed.as_slice());
-            answer_generator(kept, image, typed, processes, outside)
+            let answered = answer_generator(kept, image, typed, *processes, outside);
+            drop(command);
+            answered
         }
         _ => unreachable!(),
     }
@@ -332,26 +346,32 @@ fn go_on<C: Chooser, A: Plugs, D: Disk, K: Sink, L: Ledger>(
     ensures goes_on { GoesOnOutside D.Disk K.faults outside.old outside.new }
 {
     match line {
-        Line::File { name, bytes } => {
-            let (name, bytes) = (name.as_slice(), bytes.as_slice());
-            add_event(
-                alloc,
-                store,
-                machine,
-                &Incoming::File { name, bytes },
-                outside,
-            )
-        }
-        Line::Boot { name } => {
-            let name = name.as_slice();
-            add_event(alloc, store, machine, &Incoming::Boot { name }, outside)
-        }
-        Line::Type { bytes } => {
-            let bytes = bytes.as_slice();
-            add_event(alloc, store, machine, &Incoming::Typed { bytes }, outside)
-        }
         Line::Run { count } => run(alloc, store, machine, *count, outside),
         Line::Unplug { device } => unplug_device(alloc, store, machine, *device, outside),
+        _ => add_event(alloc, store, machine, &incoming_of(line), outside),
+    }
+}
+
+// What a line gives to the machine that becomes an event.
+fn incoming_of(line: &Line) -> Incoming<'_>
+    requires asks_not { (question : Question) → line.now ≡ Asks question → ⊥ }
+    requires runs_not { (count : ℕ) → line.now ≡ Run count → ⊥ }
+    requires unplugs_not { (device : ℕ) → line.now ≡ Unplug device → ⊥ }
+    ensures fits { LineFits line.now → IncomingFits result }
+    ensures row { (g : Given) (history : List Record) → row_of g history line.now ≡
+        becomes history (incoming_refusal history result) (input_of result) }
+{
+    match line {
+        Line::File { name, bytes } => {
+            let (name, bytes) = (name.as_slice(), bytes.as_slice());
+            Incoming::File { name, bytes }
+        }
+        Line::Boot { name } => Incoming::Boot {
+            name: name.as_slice(),
+        },
+        Line::Type { bytes } => Incoming::Typed {
+            bytes: bytes.as_slice(),
+        },
         _ => unreachable!(),
     }
 }

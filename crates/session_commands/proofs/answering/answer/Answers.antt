@@ -45,24 +45,81 @@ returns-in-Some-clause-there g c =
     OnOk-always c.print_refusal.result (or-false (is_some c.args.kept.now.machine) (needs_machine (given g.Q.Questions.told (g.A.Plugs.filled c.args.outside.now.answers.now)) c.args.kept.now.store.entries c.args.command) (needs-refused (given g.Q.Questions.told (g.A.Plugs.filled c.args.outside.now.answers.now)) c.args.kept.now.store.entries c.args.command c.in-Some.why why))
 
 pub returns-in-Says-clause-answered : goal.returns-in-Says-clause-answered
-returns-in-Says-clause-answered g c = rw c.in-Says.is c.answer_line.ensures.answered
+returns-in-Says-clause-answered g c = rw c.in-Says.is c.answer_line-answered.ensures.answered
 
 pub returns-in-Says-clause-halted : goal.returns-in-Says-clause-halted
-returns-in-Says-clause-halted g c = rw c.in-Says.is c.answer_line.ensures.halted
+returns-in-Says-clause-halted g c = rw c.in-Says.is c.answer_line-answered.ensures.halted
 
 pub returns-in-Says-clause-blames : goal.returns-in-Says-clause-blames
-returns-in-Says-clause-blames g c = rw c.in-Says.is c.answer_line.ensures.blames
+returns-in-Says-clause-blames g c = rw c.in-Says.is c.answer_line-answered.ensures.blames
 
 pub returns-in-Says-clause-there : goal.returns-in-Says-clause-there
-returns-in-Says-clause-there g c = rw c.in-Says.is c.answer_line.ensures.there
+returns-in-Says-clause-there g c = rw c.in-Says.is c.answer_line-answered.ensures.there
 
-pub answer_line-requires-clause-accepted : goal.answer_line-requires-clause-accepted
-answer_line-requires-clause-accepted g c = sym (rw (c.entries.ensures, c.in-Says.is, c.in_default.is) at (c.command_refusal.ensures g.Q.Questions.told))
+pub answer_line-answered-requires-clause-accepted : goal.answer_line-answered-requires-clause-accepted
+answer_line-answered-requires-clause-accepted g c = sym (rw (c.entries.ensures, c.in-Says.is, c.in_default.is) at (c.command_refusal.ensures g.Q.Questions.told))
 
-pub answer_generator-requires-clause-accepted : goal.answer_generator-requires-clause-accepted
-answer_generator-requires-clause-accepted g c = sym (rw (c.entries.ensures, c.in-Generates.is, c.in_default.is) at (c.command_refusal.ensures g.Q.Questions.told))
+pub answer_generator-answered-requires-clause-accepted : goal.answer_generator-answered-requires-clause-accepted
+answer_generator-answered-requires-clause-accepted g c = sym (rw (c.entries.ensures, c.in-Generates.is, c.in_default.is) at (c.command_refusal.ensures g.Q.Questions.told))
 
 pub unreachable-requires : goal.unreachable-requires
 unreachable-requires g c =
     let none : command_refusal (given g.Q.Questions.told (g.A.Plugs.filled c.args.outside.now.answers.now)) c.args.kept.now.store.entries c.args.command ≡ None = sym (rw c.entries.ensures at (c.command_refusal.ensures g.Q.Questions.told)) ∙ c.in_default.is in
     others-refused (given g.Q.Questions.told (g.A.Plugs.filled c.args.outside.now.answers.now)) c.args.kept.now.store.entries c.args.command none c.in_default-command.not-PassedOver c.in_default-command.not-Says c.in_default-command.not-Generates
+
+pub returns-in-Some-clause-sound : goal.returns-in-Some-clause-sound
+returns-in-Some-clause-sound g c = OnOk-always c.print_refusal.result c.requires.sound
+
+pub returns-in-Says-clause-sound : goal.returns-in-Says-clause-sound
+returns-in-Says-clause-sound g c = c.answer_line-answered.ensures.sound
+
+pub returns-in-Says-clause-cause : goal.returns-in-Says-clause-cause
+returns-in-Says-clause-cause g c = c.answer_line-answered.ensures.cause
+
+pub returns-in-Says-clause-goes_on : goal.returns-in-Says-clause-goes_on
+returns-in-Says-clause-goes_on g c = c.answer_line-answered.ensures.goes_on
+
+pub returns-in-PassedOver-clause-sound : goal.returns-in-PassedOver-clause-sound
+returns-in-PassedOver-clause-sound g c = c.requires.sound
+
+pub returns-in-PassedOver-clause-halted : goal.returns-in-PassedOver-clause-halted
+returns-in-PassedOver-clause-halted g c = tt
+
+pub returns-in-PassedOver-clause-blames : goal.returns-in-PassedOver-clause-blames
+returns-in-PassedOver-clause-blames g c = tt
+
+pub returns-in-PassedOver-clause-cause : goal.returns-in-PassedOver-clause-cause
+returns-in-PassedOver-clause-cause g c = tt
+
+pub returns-in-Generates-clause-sound : goal.returns-in-Generates-clause-sound
+returns-in-Generates-clause-sound g c = c.answer_generator-answered.ensures.sound
+
+pub returns-in-Generates-clause-cause : goal.returns-in-Generates-clause-cause
+returns-in-Generates-clause-cause g c = c.answer_generator-answered.ensures.cause
+
+pub returns-in-Generates-clause-goes_on : goal.returns-in-Generates-clause-goes_on
+returns-in-Generates-clause-goes_on g c = c.answer_generator-answered.ensures.goes_on
+
+pub returns-in-Generates-clause-there : goal.returns-in-Generates-clause-there
+returns-in-Generates-clause-there g c = rw c.in-Generates.is c.answer_generator-answered.ensures.there
+
+pub returns-in-Generates-clause-answered : goal.returns-in-Generates-clause-answered
+returns-in-Generates-clause-answered g c = rw (c.in-Generates.is, ← c.as_slice-image.ensures, ← c.as_slice-typed.ensures) c.answer_generator-answered.ensures.answered
+
+pub returns-in-Generates-clause-halted : goal.returns-in-Generates-clause-halted
+returns-in-Generates-clause-halted g c = rw (c.in-Generates.is, ← c.as_slice-image.ensures, ← c.as_slice-typed.ensures) c.answer_generator-answered.ensures.halted
+
+pub returns-in-Generates-clause-blames : goal.returns-in-Generates-clause-blames
+returns-in-Generates-clause-blames g c = rw (c.in-Generates.is, ← c.as_slice-image.ensures, ← c.as_slice-typed.ensures) c.answer_generator-answered.ensures.blames
+
+pub answer_line-answered-requires-clause-open : goal.answer_line-answered-requires-clause-open
+answer_line-answered-requires-clause-open g c = c.requires.«open»
+
+pub answer_generator-answered-requires-clause-open : goal.answer_generator-answered-requires-clause-open
+answer_generator-answered-requires-clause-open g c = c.requires.«open»
+
+pub answer_line-answered-requires-clause-sound : goal.answer_line-answered-requires-clause-sound
+answer_line-answered-requires-clause-sound g c = c.requires.sound
+
+pub answer_generator-answered-requires-clause-sound : goal.answer_generator-answered-requires-clause-sound
+answer_generator-answered-requires-clause-sound g c = c.requires.sound

@@ -1,4 +1,4 @@
-use Rattle.std.proofs.Common.{◌≡◌, ◌∙◌, ap, is_some, sym, true, false}
+use Rattle.std.proofs.Common.{◌≡◌, ◌∙◌, ap, is_some, sym, true, false, refl}
 use Rattle.std.proofs.lemmas.Result.{on_ok_weaker}
 use Rattle.arn_commands.specs.declared.command.Command.TheVariants.{Says}
 use Rattle.session_runs.specs.Points.{around}
@@ -7,7 +7,7 @@ use Rattle.session_commands.specs.Lines.{needs_machine}
 use Rattle.session_commands.specs.Rows.{row_of}
 use Rattle.session_runs.specs.Touches.{answering}
 use Rattle.session_commands.specs.Given.{given}
-use Rattle.session_commands.proofs.AnswerLemmas.{OnOk-always, answered-text, blames-text, err-both, halted-text, line-causes, or-false}
+use Rattle.session_commands.proofs.AnswerLemmas.{OnOk-always, answered-text, blames-text, err-both, halted-text, line-causes, or-false, goes-same}
 use Rattle.session_commands.proofs.ChangeLemmas.{answered-change, some-there, sound-asked}
 use Rattle.session_commands.proofs.LineLemmas.{cost-told, needs-none, needs-one, text-line, turn-line}
 use Rattle.session_commands.proofs.answering.answer_line.Goals as goal
@@ -63,3 +63,39 @@ tell-requires-clause-needless g c given = sym (c.needs_machine.ensures given c.a
 
 pub change-requires-clause-needs : goal.change-requires-clause-needs
 change-requires-clause-needs g c given = sym (c.needs_machine.ensures given c.args.kept.now.store.entries) ∙ c.if-needs_machine.true
+
+pub returns-then-needs_machine-clause-sound : goal.returns-then-needs_machine-clause-sound
+returns-then-needs_machine-clause-sound g c = c.change.ensures.sound
+
+pub returns-then-needs_machine-clause-halted : goal.returns-then-needs_machine-clause-halted
+returns-then-needs_machine-clause-halted g c = c.change.ensures.halted
+
+pub returns-then-needs_machine-clause-blames : goal.returns-then-needs_machine-clause-blames
+returns-then-needs_machine-clause-blames g c = c.change.ensures.blames
+
+pub returns-then-needs_machine-clause-cause : goal.returns-then-needs_machine-clause-cause
+returns-then-needs_machine-clause-cause g c = c.change.ensures.cause
+
+pub returns-then-needs_machine-clause-goes_on : goal.returns-then-needs_machine-clause-goes_on
+returns-then-needs_machine-clause-goes_on g c = c.change.ensures.goes_on
+
+pub returns-clause-goes_on : goal.returns-clause-goes_on
+returns-clause-goes_on g c = record { later = goes-same g.D.Disk.image g.D.Disk.faults c.args.outside.now.disk.now; faults = c.tell.ensures.faults; same = record { chooser = refl; answers = refl; disk = refl; sink = refl; steps = refl; text = refl } }
+
+pub change-requires-clause-open : goal.change-requires-clause-open
+change-requires-clause-open g c = c.requires.«open»
+
+pub change-requires-clause-sound : goal.change-requires-clause-sound
+change-requires-clause-sound g c = c.requires.sound
+
+pub change-requires-clause-fits : goal.change-requires-clause-fits
+change-requires-clause-fits g c = c.requires.fits
+
+pub change-requires-clause-accepted : goal.change-requires-clause-accepted
+change-requires-clause-accepted g c = c.requires.accepted
+
+pub tell-requires-clause-known : goal.tell-requires-clause-known
+tell-requires-clause-known g c = c.requires.sound.questions
+
+pub tell-requires-clause-spelled : goal.tell-requires-clause-spelled
+tell-requires-clause-spelled g c = c.requires.«open».spelled

@@ -3,14 +3,16 @@ use Rattle.arn_base.specs.declared.records.Record.{Record}
 use Rattle.arn_commands.specs.declared.command.Command.TheVariants.{Says}
 use Rattle.log_store.specs.Stores.{StoreState}
 use Rattle.session_effects.specs.Effects.{committed}
+use Rattle.session_effects.specs.Standing.{IsOpen}
 use Rattle.session_effects.specs.declared.halt.Halt.TheVariants as halt
 use Rattle.session_runs.specs.Points.{around}
 use Rattle.session_runs.specs.Standing.{standpoint}
+use Rattle.session_commands.specs.Kept.{IsThere}
 use Rattle.session_commands.specs.Lines.{turn}
 use Rattle.session_commands.specs.Rows.{row_of}
 use Rattle.session_runs.specs.Touches.{answering}
 use Rattle.session_commands.specs.Given.{given}
-use Rattle.session_commands.proofs.AnswerLemmas.{blames-not-made, cause-blames, halted-not-made, line-cause, not-made-cause}
+use Rattle.session_commands.proofs.AnswerLemmas.{OnOk-never, blames-not-made, cause-blames, falls-same, goes-same, halted-not-made, line-cause, not-made-cause}
 use Rattle.session_commands.proofs.ChangeLemmas.{advances-changed, err-same, few-known, halted-changed, halted-unheard, heard-before, sound-there, there-run, there-some}
 use Rattle.session_commands.proofs.LineLemmas.{cost-machine, needs-one, still-line, turn-line}
 use Rattle.session_commands.proofs.TurnLemmas.{IsStill}
@@ -111,3 +113,81 @@ carry_out-requires-clause-accepted g c = (g.Q.Questions.told, subst (λ (s : Sto
 
 pub carry_out-requires-clause-needs : goal.carry_out-requires-clause-needs
 carry_out-requires-clause-needs g c given = subst (λ (s : StoreState). (row_of given s.entries c.args.line.now).needs_machine ≡ true) (sym c.make_machine.ensures.store) (c.requires.needs given)
+
+pub returns-in_err-make_machine-clause-sound : goal.returns-in_err-make_machine-clause-sound
+returns-in_err-make_machine-clause-sound g c = OnOk-never _ c.from_residual.result c.in_err-make_machine.field-0.0 c.from_residual.ensures.1
+
+pub returns-in_err-make_machine-clause-there : goal.returns-in_err-make_machine-clause-there
+returns-in_err-make_machine-clause-there g c = OnOk-never _ c.from_residual.result c.in_err-make_machine.field-0.0 c.from_residual.ensures.1
+
+pub returns-in_err-make_machine-clause-on_run : goal.returns-in_err-make_machine-clause-on_run
+returns-in_err-make_machine-clause-on_run g c = OnOk-never _ c.from_residual.result c.in_err-make_machine.field-0.0 c.from_residual.ensures.1
+
+pub returns-in_err-make_machine-clause-advances : goal.returns-in_err-make_machine-clause-advances
+returns-in_err-make_machine-clause-advances g c = OnOk-never _ c.from_residual.result c.in_err-make_machine.field-0.0 c.from_residual.ensures.1
+
+pub returns-in_err-make_machine-clause-goes_on : goal.returns-in_err-make_machine-clause-goes_on
+returns-in_err-make_machine-clause-goes_on g c = record { later = goes-same g.D.Disk.image g.D.Disk.faults c.args.outside.now.disk.now; faults = falls-same (g.K.Sink.faults c.args.outside.now.sink.now); same = record { chooser = refl; answers = refl; disk = refl; sink = refl; steps = refl; text = refl } }
+
+pub returns-in_err-carry_out-clause-sound : goal.returns-in_err-carry_out-clause-sound
+returns-in_err-carry_out-clause-sound g c = OnOk-never _ c.from_residual-in_err-carry_out.result c.in_err-carry_out.field-0.0 c.from_residual-in_err-carry_out.ensures.1
+
+pub returns-in_err-carry_out-clause-there : goal.returns-in_err-carry_out-clause-there
+returns-in_err-carry_out-clause-there g c = OnOk-never _ c.from_residual-in_err-carry_out.result c.in_err-carry_out.field-0.0 c.from_residual-in_err-carry_out.ensures.1
+
+pub returns-in_err-carry_out-clause-on_run : goal.returns-in_err-carry_out-clause-on_run
+returns-in_err-carry_out-clause-on_run g c = OnOk-never _ c.from_residual-in_err-carry_out.result c.in_err-carry_out.field-0.0 c.from_residual-in_err-carry_out.ensures.1
+
+pub returns-in_err-carry_out-clause-advances : goal.returns-in_err-carry_out-clause-advances
+returns-in_err-carry_out-clause-advances g c = OnOk-never _ c.from_residual-in_err-carry_out.result c.in_err-carry_out.field-0.0 c.from_residual-in_err-carry_out.ensures.1
+
+pub returns-in_err-carry_out-clause-goes_on : goal.returns-in_err-carry_out-clause-goes_on
+returns-in_err-carry_out-clause-goes_on g c =
+    let gone = c.carry_out.ensures.goes_on in
+    record { later = gone.later; faults = gone.faults; same = record { chooser = gone.same.chooser; answers = gone.same.answers; disk = gone.same.disk; sink = gone.same.sink; steps = gone.same.steps; text = gone.same.text } }
+
+pub returns-in_err-tell_questions-clause-sound : goal.returns-in_err-tell_questions-clause-sound
+returns-in_err-tell_questions-clause-sound g c = OnOk-never _ c.from_residual-in_err-tell_questions.result halt.NoMemory c.from_residual-in_err-tell_questions.ensures.1
+
+pub returns-in_err-tell_questions-clause-there : goal.returns-in_err-tell_questions-clause-there
+returns-in_err-tell_questions-clause-there g c = OnOk-never _ c.from_residual-in_err-tell_questions.result halt.NoMemory c.from_residual-in_err-tell_questions.ensures.1
+
+pub returns-in_err-tell_questions-clause-on_run : goal.returns-in_err-tell_questions-clause-on_run
+returns-in_err-tell_questions-clause-on_run g c = OnOk-never _ c.from_residual-in_err-tell_questions.result halt.NoMemory c.from_residual-in_err-tell_questions.ensures.1
+
+pub returns-in_err-tell_questions-clause-advances : goal.returns-in_err-tell_questions-clause-advances
+returns-in_err-tell_questions-clause-advances g c = OnOk-never _ c.from_residual-in_err-tell_questions.result halt.NoMemory c.from_residual-in_err-tell_questions.ensures.1
+
+pub returns-in_err-tell_questions-clause-goes_on : goal.returns-in_err-tell_questions-clause-goes_on
+returns-in_err-tell_questions-clause-goes_on g c =
+    let gone = c.carry_out.ensures.goes_on in
+    record { later = gone.later; faults = gone.faults; same = record { chooser = gone.same.chooser; answers = gone.same.answers; disk = gone.same.disk; sink = gone.same.sink; steps = gone.same.steps; text = gone.same.text } }
+
+pub returns-clause-halted : goal.returns-clause-halted
+returns-clause-halted g c = tt
+
+pub returns-clause-blames : goal.returns-clause-blames
+returns-clause-blames g c = tt
+
+pub returns-clause-cause : goal.returns-clause-cause
+returns-clause-cause g c = tt
+
+pub returns-clause-goes_on : goal.returns-clause-goes_on
+returns-clause-goes_on g c =
+    let gone = c.carry_out.ensures.goes_on in
+    record { later = gone.later; faults = gone.faults; same = record { chooser = gone.same.chooser; answers = gone.same.answers; disk = gone.same.disk; sink = gone.same.sink; steps = gone.same.steps; text = gone.same.text } }
+
+pub make_machine-requires-clause-sound : goal.make_machine-requires-clause-sound
+make_machine-requires-clause-sound g c = c.requires.sound
+
+pub make_machine-requires-clause-spelled : goal.make_machine-requires-clause-spelled
+make_machine-requires-clause-spelled g c = c.requires.«open».spelled
+
+pub carry_out-requires-clause-fits : goal.carry_out-requires-clause-fits
+carry_out-requires-clause-fits g c = c.requires.fits
+
+pub carry_out-requires-clause-open : goal.carry_out-requires-clause-open
+carry_out-requires-clause-open g c = subst (λ (s : StoreState). IsOpen g.D.Disk s c.args.outside.now.disk.now) (sym c.make_machine.ensures.store) c.requires.«open»
+
+pub carry_out-requires-clause-there : goal.carry_out-requires-clause-there
+carry_out-requires-clause-there g c = subst (λ (s : StoreState). IsThere c.make_machine.new.kept.machine s.entries) (sym c.make_machine.ensures.store) c.in_ok-make_machine.ensures.there

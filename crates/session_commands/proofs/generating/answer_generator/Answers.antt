@@ -1,17 +1,20 @@
-use Rattle.std.proofs.Common.{◌∙◌, is_none, is_some, refl, sym, arith, List, length, ap, subst, All}
+use Rattle.std.proofs.Common.{◌≡◌, ◌∙◌, None, is_none, is_some, refl, sym, arith, List, length, ap, subst, All}
 use Rattle.arn_commands.specs.declared.command.Command.TheVariants.{Generates}
 use Rattle.session_runs.specs.Touches.{answering}
 use Rattle.session_commands.specs.Given.{given}
-use Rattle.session_commands.proofs.AnswerLemmas.{or-true, OnOk-always, cause-blames, disk-cause, err-both, halted-not-made, text-cause}
+use Rattle.session_commands.proofs.AnswerLemmas.{OnOk-always, OnOk-never, blames-not-made, cause-blames, disk-cause, err-both, falls-same, goes-same, halted-not-made, not-made-cause, or-true, text-cause}
 use Rattle.session_commands.proofs.GeneratedLemmas.{answered-told, cost-made, halted-told, halted-unheard, halted-untold, still-generator, turn-generator}
 use Rattle.arn_base.specs.declared.records.Record.{Record}
 use Rattle.log_store.specs.Stores.{StoreState}
 use Rattle.result_log.specs.Spelling.{HasSpelling}
 use Rattle.session_effects.specs.Effects.{committed}
+use Rattle.session_effects.specs.Standing.{IsOpen}
 use Rattle.session_effects.specs.declared.halt.Halt.TheVariants as halt
 use Rattle.session_runs.specs.Points.{around}
 use Rattle.session_runs.specs.Standing.{standpoint}
+use Rattle.session_commands.specs.Kept.{IsThere}
 use Rattle.session_commands.specs.Lines.{turn}
+use Rattle.session_commands.specs.Refusals.{generator_refusal}
 use Rattle.std.proofs.lemmas.Result.{on_ok_weaker}
 use Rattle.session_commands.proofs.ChangeLemmas.{err-same, few-known, heard-before, sound-there, there-run, there-some}
 use Rattle.session_commands.proofs.TurnLemmas.{IsStill}
@@ -118,3 +121,84 @@ returns-clause-there g c =
 
 pub tell_questions-requires-clause-run : goal.tell_questions-requires-clause-run
 tell_questions-requires-clause-run g c = there-run c.perform.new.kept.machine c.perform.new.kept.store.entries c.in_ok-perform.ensures.there
+
+pub returns-in_err-make_machine-clause-sound : goal.returns-in_err-make_machine-clause-sound
+returns-in_err-make_machine-clause-sound g c = OnOk-never _ c.from_residual.result c.in_err-make_machine.field-0.0 c.from_residual.ensures.1
+
+pub returns-in_err-make_machine-clause-there : goal.returns-in_err-make_machine-clause-there
+returns-in_err-make_machine-clause-there g c = OnOk-never _ c.from_residual.result c.in_err-make_machine.field-0.0 c.from_residual.ensures.1
+
+pub returns-in_err-make_machine-clause-answered : goal.returns-in_err-make_machine-clause-answered
+returns-in_err-make_machine-clause-answered g c = OnOk-never _ c.from_residual.result c.in_err-make_machine.field-0.0 c.from_residual.ensures.1
+
+pub returns-in_err-make_machine-clause-goes_on : goal.returns-in_err-make_machine-clause-goes_on
+returns-in_err-make_machine-clause-goes_on g c = record { later = goes-same g.D.Disk.image g.D.Disk.faults c.args.outside.now.disk.now; faults = falls-same (g.K.Sink.faults c.args.outside.now.sink.now); same = record { chooser = refl; answers = refl; disk = refl; sink = refl; steps = refl; text = refl } }
+
+pub returns-in_err-perform-clause-sound : goal.returns-in_err-perform-clause-sound
+returns-in_err-perform-clause-sound g c = OnOk-never _ c.from_residual-in_err-perform.result c.in_err-perform.field-0.0 c.from_residual-in_err-perform.ensures.1
+
+pub returns-in_err-perform-clause-there : goal.returns-in_err-perform-clause-there
+returns-in_err-perform-clause-there g c = OnOk-never _ c.from_residual-in_err-perform.result c.in_err-perform.field-0.0 c.from_residual-in_err-perform.ensures.1
+
+pub returns-in_err-perform-clause-answered : goal.returns-in_err-perform-clause-answered
+returns-in_err-perform-clause-answered g c = OnOk-never _ c.from_residual-in_err-perform.result c.in_err-perform.field-0.0 c.from_residual-in_err-perform.ensures.1
+
+pub returns-in_err-perform-clause-goes_on : goal.returns-in_err-perform-clause-goes_on
+returns-in_err-perform-clause-goes_on g c =
+    let gone = c.perform.ensures.goes_on in
+    record { later = gone.later; faults = gone.faults; same = record { chooser = gone.same.chooser; answers = gone.same.answers; disk = gone.same.disk; sink = gone.same.sink; steps = gone.same.steps; text = gone.same.text } }
+
+pub returns-in_err-tell_questions-clause-sound : goal.returns-in_err-tell_questions-clause-sound
+returns-in_err-tell_questions-clause-sound g c = OnOk-never _ c.from_residual-in_err-tell_questions.result halt.NoMemory c.from_residual-in_err-tell_questions.ensures.1
+
+pub returns-in_err-tell_questions-clause-there : goal.returns-in_err-tell_questions-clause-there
+returns-in_err-tell_questions-clause-there g c = OnOk-never _ c.from_residual-in_err-tell_questions.result halt.NoMemory c.from_residual-in_err-tell_questions.ensures.1
+
+pub returns-in_err-tell_questions-clause-answered : goal.returns-in_err-tell_questions-clause-answered
+returns-in_err-tell_questions-clause-answered g c = OnOk-never _ c.from_residual-in_err-tell_questions.result halt.NoMemory c.from_residual-in_err-tell_questions.ensures.1
+
+pub returns-in_err-tell_questions-clause-goes_on : goal.returns-in_err-tell_questions-clause-goes_on
+returns-in_err-tell_questions-clause-goes_on g c =
+    let gone = c.perform.ensures.goes_on in
+    record { later = gone.later; faults = gone.faults; same = record { chooser = gone.same.chooser; answers = gone.same.answers; disk = gone.same.disk; sink = gone.same.sink; steps = gone.same.steps; text = gone.same.text } }
+
+pub returns-in_err-make_machine-clause-blames : goal.returns-in_err-make_machine-clause-blames
+returns-in_err-make_machine-clause-blames g c =
+    let why = c.in_err-make_machine.field-0.0 in
+    err-same c.from_residual.result why _ c.from_residual.ensures.1
+    (blames-not-made (given g.Q.Questions.told (g.A.Plugs.filled c.args.outside.now.answers.now)) (is_some c.args.kept.now.machine) (Generates c.args.image.now c.args.typed.now c.args.processes) (g.C.Chooser.choices c.args.outside.now.chooser.now) c.args.outside.now.answers.now why c.args.outside.now.disk.now c.args.kept.now.store c.make_machine.new.kept.store (g.K.Sink.holds c.args.outside.now.sink.now) c.args.outside.now.steps.now c.make_machine.new.steps c.in_err-make_machine.ensures.not_made c.make_machine.ensures.store c.in_err-make_machine.ensures.blames (ap is_some c.in_err-make_machine.ensures.absent) (ap is_none c.requires.accepted) c.make_machine.ensures.steps)
+
+pub returns-in_err-make_machine-clause-cause : goal.returns-in_err-make_machine-clause-cause
+returns-in_err-make_machine-clause-cause g c =
+    let why = c.in_err-make_machine.field-0.0 in
+    err-same c.from_residual.result why _ c.from_residual.ensures.1 (not-made-cause why (g.D.Disk.faults c.args.outside.now.disk.now) (g.D.Disk.faults c.args.outside.now.disk.now) (g.K.Sink.faults c.args.outside.now.sink.now) (g.K.Sink.faults c.args.outside.now.sink.now) c.in_err-make_machine.ensures.not_made)
+
+pub returns-in_err-tell_questions-clause-blames : goal.returns-in_err-tell_questions-clause-blames
+returns-in_err-tell_questions-clause-blames g c = err-same c.from_residual-in_err-tell_questions.result halt.NoMemory _ c.from_residual-in_err-tell_questions.ensures.1 tt
+
+pub returns-in_err-tell_questions-clause-cause : goal.returns-in_err-tell_questions-clause-cause
+returns-in_err-tell_questions-clause-cause g c = err-same c.from_residual-in_err-tell_questions.result halt.NoMemory _ c.from_residual-in_err-tell_questions.ensures.1 tt
+
+pub make_machine-requires-clause-sound : goal.make_machine-requires-clause-sound
+make_machine-requires-clause-sound g c = c.requires.sound
+
+pub make_machine-requires-clause-spelled : goal.make_machine-requires-clause-spelled
+make_machine-requires-clause-spelled g c = c.requires.«open».spelled
+
+pub perform-requires-clause-open : goal.perform-requires-clause-open
+perform-requires-clause-open g c = subst (λ (s : StoreState). IsOpen g.D.Disk s c.args.outside.now.disk.now) (sym c.make_machine.ensures.store) c.requires.«open»
+
+pub perform-requires-clause-there : goal.perform-requires-clause-there
+perform-requires-clause-there g c = subst (λ (s : StoreState). IsThere c.make_machine.new.kept.machine s.entries) (sym c.make_machine.ensures.store) c.in_ok-make_machine.ensures.there
+
+pub perform-requires-clause-image : goal.perform-requires-clause-image
+perform-requires-clause-image g c = c.requires.image
+
+pub perform-requires-clause-typed : goal.perform-requires-clause-typed
+perform-requires-clause-typed g c = c.requires.typed
+
+pub perform-requires-clause-accepted : goal.perform-requires-clause-accepted
+perform-requires-clause-accepted g c = subst (λ (s : StoreState). generator_refusal s.entries ≡ None) (sym c.make_machine.ensures.store) c.requires.accepted
+
+pub tell-requires-clause-known : goal.tell-requires-clause-known
+tell-requires-clause-known g c = subst (λ (s : StoreState). g.Q.Questions.knows c.tell_questions.new.kept.questions s.entries) (sym c.tell_questions.ensures.store) c.in_ok-tell_questions.ensures.questions

@@ -5,7 +5,7 @@ use Rattle.arn_model.specs.Run as input
 use Rattle.session_runs.specs.Ready.{machine_of}
 use Rattle.session_commands.specs.Generator.{gen_name}
 use Rattle.session_commands.specs.Refusals.{boot_refusal, early_refusal}
-use Rattle.session_commands.proofs.AnswerLemmas.{err-both}
+use Rattle.session_commands.proofs.AnswerLemmas.{err-both, OnOk-never}
 use Rattle.session_commands.proofs.BootLemmas.{accepts-boot, accepts-type}
 use Rattle.session_commands.proofs.ChangeLemmas.{OnOk-each, err-same}
 use Rattle.session_commands.proofs.QuietLemmas.{AreCommitted, committed-more, committed-one, entries-behind, halts-before, halts-behind}
@@ -95,3 +95,48 @@ returns-clause-cause g c =
     err-both c.commit_event-3.result _ _ _
     (λ why cause again faults. c.causes_follow.ensures.cause why _ _ _ _ _ _ before c.commit_event-3.ensures.later.never_falls (c.causes_follow.ensures.still faults) (c.causes_follow.ensures.still faults) (cause faults))
     c.commit_event-3.ensures.cause c.commit_event-3.ensures.cause
+
+pub returns-in_err-commit_event-clause-ready : goal.returns-in_err-commit_event-clause-ready
+returns-in_err-commit_event-clause-ready g c = OnOk-never _ c.from_residual.result c.in_err-commit_event.field-0.0 c.from_residual.ensures.1
+
+pub returns-in_err-commit_event-clause-leads : goal.returns-in_err-commit_event-clause-leads
+returns-in_err-commit_event-clause-leads g c = OnOk-never _ c.from_residual.result c.in_err-commit_event.field-0.0 c.from_residual.ensures.1
+
+pub returns-in_err-commit_event-clause-carries : goal.returns-in_err-commit_event-clause-carries
+returns-in_err-commit_event-clause-carries g c = λ held. OnOk-never _ c.from_residual.result c.in_err-commit_event.field-0.0 c.from_residual.ensures.1
+
+pub returns-in_err-commit_event-2-clause-ready : goal.returns-in_err-commit_event-2-clause-ready
+returns-in_err-commit_event-2-clause-ready g c = OnOk-never _ c.from_residual-in_err-commit_event-2.result c.in_err-commit_event-2.field-0.0 c.from_residual-in_err-commit_event-2.ensures.1
+
+pub returns-in_err-commit_event-2-clause-leads : goal.returns-in_err-commit_event-2-clause-leads
+returns-in_err-commit_event-2-clause-leads g c = OnOk-never _ c.from_residual-in_err-commit_event-2.result c.in_err-commit_event-2.field-0.0 c.from_residual-in_err-commit_event-2.ensures.1
+
+pub returns-in_err-commit_event-2-clause-carries : goal.returns-in_err-commit_event-2-clause-carries
+returns-in_err-commit_event-2-clause-carries g c = λ held. OnOk-never _ c.from_residual-in_err-commit_event-2.result c.in_err-commit_event-2.field-0.0 c.from_residual-in_err-commit_event-2.ensures.1
+
+pub returns-in_err-commit_event-clause-cause : goal.returns-in_err-commit_event-clause-cause
+returns-in_err-commit_event-clause-cause g c = err-same c.from_residual.result c.in_err-commit_event.field-0.0 _ c.from_residual.ensures.1 c.in_err-commit_event.ensures.cause
+
+pub returns-in_err-commit_event-clause-later : goal.returns-in_err-commit_event-clause-later
+returns-in_err-commit_event-clause-later g c = c.commit_event.ensures.later
+
+pub returns-in_err-commit_event-2-clause-later : goal.returns-in_err-commit_event-2-clause-later
+returns-in_err-commit_event-2-clause-later g c = c.causes_follow.ensures.later _ _ _ c.commit_event.ensures.later c.commit_event-2.ensures.later
+
+pub returns-clause-ready : goal.returns-clause-ready
+returns-clause-ready g c = c.commit_event-3.ensures.ready
+
+pub returns-clause-later : goal.returns-clause-later
+returns-clause-later g c = c.causes_follow.ensures.later _ _ _ (c.causes_follow.ensures.later _ _ _ c.commit_event.ensures.later c.commit_event-2.ensures.later) c.commit_event-3.ensures.later
+
+pub commit_event-requires-clause-open : goal.commit_event-requires-clause-open
+commit_event-requires-clause-open g c = c.requires.«open»
+
+pub commit_event-requires-clause-ready : goal.commit_event-requires-clause-ready
+commit_event-requires-clause-ready g c = c.requires.ready
+
+pub commit_event-requires-2-clause-ready : goal.commit_event-requires-2-clause-ready
+commit_event-requires-2-clause-ready g c = c.in_ok-commit_event.ensures.ready
+
+pub commit_event-requires-3-clause-ready : goal.commit_event-requires-3-clause-ready
+commit_event-requires-3-clause-ready g c = c.in_ok-commit_event-2.ensures.ready

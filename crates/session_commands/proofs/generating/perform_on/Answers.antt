@@ -1,11 +1,11 @@
-use Rattle.std.proofs.Common.{None}
+use Rattle.std.proofs.Common.{None, refl}
 use Rattle.std.proofs.lemmas.Result.{on_ok_weaker}
 use Rattle.session_runs.specs.Points.{around}
 use Rattle.session_runs.specs.Ready.{machine_of}
 use Rattle.session_runs.specs.Turns.{prints}
 use Rattle.session_commands.specs.Generator.{gen_inputs, gen_run, generator_turn}
 use Rattle.session_runs.specs.Touches.{answering}
-use Rattle.session_commands.proofs.AnswerLemmas.{err-both}
+use Rattle.session_commands.proofs.AnswerLemmas.{err-both, OnOk-never, falls-same}
 use Rattle.session_commands.proofs.ChangeLemmas.{err-same}
 use Rattle.session_commands.proofs.GeneratedLemmas.{Advances-events, Stops-events, plain-events}
 use Rattle.session_commands.proofs.QuietLemmas.{AreCommitted}
@@ -59,3 +59,36 @@ pub returns-clause-goes_on : goal.returns-clause-goes_on
 returns-clause-goes_on g c =
     let gone = c.run_quietly.ensures.goes_on in
     record { later = c.causes_follow.ensures.later _ _ _ c.commit_events.ensures.later gone.later; faults = gone.faults; same = record { chooser = gone.same.chooser; answers = gone.same.answers; disk = gone.same.disk; sink = gone.same.sink; steps = gone.same.steps; text = gone.same.text } }
+
+pub returns-in_err-commit_events-clause-ready : goal.returns-in_err-commit_events-clause-ready
+returns-in_err-commit_events-clause-ready g c = OnOk-never _ c.from_residual.result c.in_err-commit_events.field-0.0 c.from_residual.ensures.1
+
+pub returns-in_err-commit_events-clause-advances : goal.returns-in_err-commit_events-clause-advances
+returns-in_err-commit_events-clause-advances g c = λ told processes. OnOk-never _ c.from_residual.result c.in_err-commit_events.field-0.0 c.from_residual.ensures.1
+
+pub returns-in_err-commit_events-clause-cause : goal.returns-in_err-commit_events-clause-cause
+returns-in_err-commit_events-clause-cause g c = err-same c.from_residual.result c.in_err-commit_events.field-0.0 _ c.from_residual.ensures.1 c.in_err-commit_events.ensures.cause
+
+pub returns-in_err-commit_events-clause-goes_on : goal.returns-in_err-commit_events-clause-goes_on
+returns-in_err-commit_events-clause-goes_on g c = record { later = c.commit_events.ensures.later; faults = falls-same (g.K.Sink.faults c.args.outside.now.sink.now); same = record { chooser = refl; answers = refl; disk = refl; sink = refl; steps = refl; text = refl } }
+
+pub returns-clause-ready : goal.returns-clause-ready
+returns-clause-ready g c = c.run_quietly.ensures.ready
+
+pub run_quietly-requires-clause-ready : goal.run_quietly-requires-clause-ready
+run_quietly-requires-clause-ready g c = c.in_ok-commit_events.ensures.ready
+
+pub commit_events-requires-clause-open : goal.commit_events-requires-clause-open
+commit_events-requires-clause-open g c = c.requires.«open»
+
+pub commit_events-requires-clause-ready : goal.commit_events-requires-clause-ready
+commit_events-requires-clause-ready g c = c.requires.ready
+
+pub commit_events-requires-clause-image : goal.commit_events-requires-clause-image
+commit_events-requires-clause-image g c = c.requires.image
+
+pub commit_events-requires-clause-typed : goal.commit_events-requires-clause-typed
+commit_events-requires-clause-typed g c = c.requires.typed
+
+pub commit_events-requires-clause-accepted : goal.commit_events-requires-clause-accepted
+commit_events-requires-clause-accepted g c = c.requires.accepted

@@ -1,0 +1,31 @@
+use Rattle.session_effects.specs.declared.halt.Halt.TheVariants as halt
+use Rattle.std.proofs.Common.{◌≡◌, ◌∙◌, ◌++◌, ℕ, IfErr, List, OnOk, ap, option_map, subst}
+use Rattle.arn_lines.specs.Texts.{refusal_text}
+use Rattle.session_effects.specs.Printing.{StopsPut}
+use Rattle.session_commands.proofs.AnswerLemmas.{OnOk-never, falls-same, put-nothing}
+use Rattle.session_commands.proofs.ChangeLemmas.{err-same}
+use Rattle.session_commands.proofs.printing.print_refusal.Goals as goal
+
+pub returns-in_err-push_refusal-clause-ok : goal.returns-in_err-push_refusal-clause-ok
+returns-in_err-push_refusal-clause-ok g c = OnOk-never _ c.from_residual.result halt.NoMemory c.from_residual.ensures.1
+
+pub returns-in_err-push_refusal-clause-stops : goal.returns-in_err-push_refusal-clause-stops
+returns-in_err-push_refusal-clause-stops g c = err-same c.from_residual.result halt.NoMemory _ c.from_residual.ensures.1 (put-nothing (refusal_text c.args.why) (g.K.Sink.holds c.args.sink.now))
+
+pub returns-in_err-push_refusal-clause-cause : goal.returns-in_err-push_refusal-clause-cause
+returns-in_err-push_refusal-clause-cause g c = err-same c.from_residual.result halt.NoMemory _ c.from_residual.ensures.1 (λ faults. tt)
+
+pub returns-in_err-push_refusal-clause-faults : goal.returns-in_err-push_refusal-clause-faults
+returns-in_err-push_refusal-clause-faults g c = falls-same (g.K.Sink.faults c.args.sink.now)
+
+pub returns-clause-ok : goal.returns-clause-ok
+returns-clause-ok g c = subst (λ (t : List ℕ). OnOk c.put_all.result ((g.K.Sink.holds c.put_all.new.sink) ≡ option_map (λ held. held ++ t) (g.K.Sink.holds c.args.sink.now))) (c.as_bytes.ensures.value ∙ c.in_ok-push_refusal.ensures.ok ∙ ap (λ (x : List ℕ). x ++ refusal_text c.args.why) c.clear.ensures.bytes) c.put_all.ensures.ok
+
+pub returns-clause-stops : goal.returns-clause-stops
+returns-clause-stops g c = subst (λ (t : List ℕ). IfErr c.put_all.result (λ why. StopsPut why t (g.K.Sink.holds c.args.sink.now) (g.K.Sink.holds c.put_all.new.sink))) (c.as_bytes.ensures.value ∙ c.in_ok-push_refusal.ensures.ok ∙ ap (λ (x : List ℕ). x ++ refusal_text c.args.why) c.clear.ensures.bytes) c.put_all.ensures.stops
+
+pub returns-clause-cause : goal.returns-clause-cause
+returns-clause-cause g c = c.put_all.ensures.cause
+
+pub returns-clause-faults : goal.returns-clause-faults
+returns-clause-faults g c = c.put_all.ensures.faults
