@@ -1,6 +1,7 @@
 -- The first difference of two lists of records.
 use Rattle.std.proofs.Common.{◌≡◌, ◌≢◌, ℕ, zero, suc, ◌+◌, ◌==◌, Bool, true, false, List, [], ◌∷◌, Option, Some, None, ap, arith, drop, get_or, refl, slice_get, sym, take, ◌∙◌, if◌then◌else◌, ◌↔◌, Err, IsErrOf, Ok, OnOk, Result}
 use Rattle.std.proofs.lemmas.Bool.Decides.{nat_tests}
+use Rattle.std.proofs.lemmas.Option.{none-some}
 use Rattle.std.specs.Result.{result_err}
 use Rattle.log_model.specs.Records.{IsRun, named, records}
 use Rattle.arn_base.specs.declared.records.Differs.{Differs}
@@ -47,7 +48,7 @@ bytes-first place at (suc k) _ _ d same said_is found_is differ place_is at_is =
 
 -- what `verify` says of records that differ isn't that they are a run's
 no-run-line : (d : Differs) → verify_line (Some d) ≢ verify_line None
-no-run-line d same = cc
+no-run-line d same = omega (arith, ap (λ (xs : List ℕ). get_or xs 7 0) same)
 
 run-line-none : (o : Option Differs) → verify_line o ≡ verify_line None → o ≡ None
 run-line-none None same = refl
@@ -62,19 +63,20 @@ module _ (compare : RecordsCompare) where
   -- records that differ nowhere are the same
   chosen-none : (b : Bool) (o : Option Differs) (d : Differs) → (if b then o else Some d) ≡ None → b ≡ true
   chosen-none true o d none = refl
-  chosen-none false o d none = cc
+  chosen-none false o d none = absurd (none-some d (sym none))
 
   chosen-rest : (b : Bool) (o : Option Differs) (d : Differs) → (if b then o else Some d) ≡ None → o ≡ None
   chosen-rest true o d none = none
-  chosen-rest false o d none = cc
+  chosen-rest false o d none = absurd (none-some d (sym none))
 
   none-same : (place : ℕ) (said found : List Record) → records_from place said found ≡ None → said ≡ found
   none-same place [] [] none = refl
   none-same place (s ∷ said) (f ∷ found) none =
       let first : s ≡ f = (compare s f).0 (chosen-none (same_record s f) _ _ none) in
       let rest : said ≡ found = none-same (place + 1) said found (chosen-rest (same_record s f) _ _ none) in
-      cc
-  none-same place _ _ none = cc
+      ap (λ (x : Record). x ∷ said) first ∙ ap (λ (xs : List Record). f ∷ xs) rest
+  none-same place [] (f ∷ found) none = absurd (none-some _ (sym none))
+  none-same place (s ∷ said) [] none = absurd (none-some _ (sym none))
 
   -- records that are the same up to one that differs, whose spelling does
   records-first : (place k : ℕ) (said found : List Record) (d : Differs) → take k said ≡ take k found → slice_get said k ≢ slice_get found k
@@ -108,10 +110,10 @@ module _ (compare : RecordsCompare) where
   -- what making the machine again tells
   pub made-none : {T : Type 0} (entries : List Record) (made : Result T RebuildError) → None ≡ result_err made → OnOk made (IsRun entries) → None ≡ difference entries
   made-none entries (Ok m) none run = sym (none-of_run entries run)
-  made-none entries (Err e) none run = cc
+  made-none entries (Err e) none run = absurd (none-some e none)
 
   pub made-differs : {T : Type 0} (entries : List Record) (made : Result T RebuildError) (d : Differs) → Some (rebuild.Differs d) ≡ result_err made → ((at : Differs) → IsErrOf made (rebuild.Differs at) → IsFirstDifference entries (records (named entries)) at) → Some d ≡ difference entries
-  made-differs entries (Ok m) d some first = cc
+  made-differs entries (Ok m) d some first = absurd (none-some (rebuild.Differs d) (sym some))
   made-differs entries (Err e) d some first = sym (first-told entries d (first d (cc)))
 
   pub verified : (entries : List Record) → (verify_text entries ≡ verify_line None) ↔ IsRun entries

@@ -7,4 +7,5 @@ mod Sought
 mod Printed
 mod Written
 mod OfRuns
+mod OneWrite
 mod Examples

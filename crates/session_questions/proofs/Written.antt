@@ -1,5 +1,5 @@
 -- Queries about writes to the console, one after the other.
-use Rattle.std.proofs.Common.{◌≡◌, ◌∙◌, ℕ, ◌+◌, ◌<◌, ◌≤◌, ◌++◌, Bool, true, false, if◌then◌else◌, List, [], ◌∷◌, drop, length, slice_index_or, sum_by, refl, sym, ap, subst, arith, Err, IfErr, IsErrAnd, Ok, Result}
+use Rattle.std.proofs.Common.{◌≡◌, ◌∙◌, ℕ, ◌+◌, ◌<◌, ◌≤◌, ◌++◌, Bool, true, false, if◌then◌else◌, List, [], ◌∷◌, drop, length, slice_index_or, sum_by, refl, sym, ap, subst, arith, Err, IfErr, IfOk, IsErrAnd, Ok, OnOk, Result}
 use Rattle.std.proofs.lemmas.List.{drop_more}
 use Rattle.std.proofs.lemmas.List.Sums.{sum_by-append}
 use Rattle.acts_model.specs.Records.{is_event}
@@ -72,3 +72,20 @@ stops entries pairs left first rest why is refused before =
 pub err-same : {T E : Type 0} (r : Result T E) (why : E) (P : E → Type 0) → IsErrAnd r (λ e. e ≡ why) → P why → IfErr r P
 err-same (Ok x) why P is p = tt
 err-same (Err e) why P is p = subst P (sym is) p
+
+-- nothing is asked of a result that is an error
+pub ok-never : {T E : Type 0} (P : T → Type 0) (r : Result T E) (why : E) → IsErrAnd r (λ e. e ≡ why) → IfOk r P
+ok-never P (Ok x) why is = absurd is
+ok-never P (Err e) why is = tt
+
+pub ok-always : {T E : Type 0} (P : Type 0) (r : Result T E) → P → OnOk r P
+ok-always P (Ok x) is = is
+ok-always P (Err e) is = tt
+
+-- before the first write all are left
+pub begins : (entries : List Record) → Leaves entries 0 (writes entries)
+begins entries = record { told = λ text. refl; counted = omega arith }
+
+-- what the first cost was within bounds
+pub cost-stops : (entries : List Record) (old new most : ℕ) (left first rest : List Write) → left ≡ first ++ rest → new ≤ old + writes_cost entries first → old + writes_cost entries left ≤ most → new ≤ most
+cost-stops entries old new most left first rest is ran before = omega (arith, cost-goes-on entries old new most left first rest is ran before)

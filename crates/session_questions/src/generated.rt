@@ -14,7 +14,7 @@ use crate::short::short_logs_are_countable;
 use crate::targets::event_target;
 use arn_base::{NoMemory, Record, Steps};
 use generator::{push_gen, written_by, written_sum};
-use query_engine::QueryError;
+use query_engine::{Answer, QueryError};
 use rv64_model::Linkage;
 use session_reports::push_error;
 use std::sync::ledger::Ledger;
@@ -24,6 +24,13 @@ fn is_event(entry: &Record) -> bool
     ensures { result ≡ records.is_event entry.now }
 {
     !matches!(entry, Record::Slice { .. })
+}
+
+// How many pairs answer.
+fn pair_count(answer: Answer) -> u64
+    ensures { result ≡ length answer.pairs }
+{
+    answer.pairs.len() as u64
 }
 
 impl Asking {
@@ -51,10 +58,11 @@ impl Asking {
         let Some(target) = event_target(entries, event, 0, len) else {
             return Err(QueryError::NoPoint);
         };
-        let answer = self
+        let answered = self
             .engine
-            .back(entries, &self.index, Linkage::Data, &target, steps)?;
-        Ok(answer.pairs.len() as u64)
+            .back(entries, &self.index, Linkage::Data, &target, steps);
+        drop(target);
+        Ok(pair_count(answered?))
     }
 
     // How many say so of all writes.

@@ -63,7 +63,11 @@ impl Asking {
             return push_refusal(text, Refusal::NoPoint);
         };
         match self.engine.forth(entries, &self.index, linkage, bytes.event, from, len, steps) {
-            Ok(answer) => push_reached(text, &answer),
+            Ok(answer) => {
+                let pushed = push_reached(text, &answer);
+                drop(answer);
+                pushed
+            }
             Err(error) => push_error(text, error),
         }
     }

@@ -60,11 +60,16 @@ impl Asking {
         let Some(target) = target_of(*text.allocator(), entries, &self.index, sought)? else {
             return push_refusal(text, Refusal::NoPoint);
         };
-        match self
+        let answered = self
             .engine
-            .back(entries, &self.index, linkage, &target, steps)
-        {
-            Ok(answer) => push_answer(text, &answer),
+            .back(entries, &self.index, linkage, &target, steps);
+        drop(target);
+        match answered {
+            Ok(answer) => {
+                let pushed = push_answer(text, &answer);
+                drop(answer);
+                pushed
+            }
             Err(error) => push_error(text, error),
         }
     }
