@@ -1,4 +1,4 @@
-use Rattle.std.proofs.Common.{◌≡◌, ◌∙◌, None, Some, ap, is_some, refl, sym, arith}
+use Rattle.std.proofs.Common.{◌≡◌, ◌∙◌, None, Some, ap, is_some, refl, sym, arith, List, ◌^◌, ◌<◌, ℕ, length, subst}
 use Rattle.arn_lines.specs.Texts.{refusal_text}
 use Rattle.arn_commands.specs.declared.command.Command.{Command}
 use Rattle.session_runs.specs.Points.{around}
@@ -6,8 +6,9 @@ use Rattle.session_runs.specs.Standing.{standpoint}
 use Rattle.session_commands.specs.Lines.{command_refusal, needs_machine, turn}
 use Rattle.session_runs.specs.Touches.{answering}
 use Rattle.session_commands.specs.Given.{given}
-use Rattle.session_commands.proofs.AnswerLemmas.{answered-nothing, answered-text, blames-text, halted-text, line-causes, or-false, OnOk-always}
+use Rattle.session_commands.proofs.AnswerLemmas.{answered-nothing, answered-text, blames-text, halted-text, line-causes, or-false, OnOk-always, falls-same, goes-same}
 use Rattle.session_commands.proofs.LineLemmas.{needs-refused, others-refused, turn-refused}
+use Rattle.arn_commands.specs.Sizes.{Fits, IsBootable}
 use Rattle.session_commands.proofs.answering.answer.Goals as goal
 
 pub returns-in-PassedOver-clause-answered : goal.returns-in-PassedOver-clause-answered
@@ -123,3 +124,18 @@ answer_line-answered-requires-clause-sound g c = c.requires.sound
 
 pub answer_generator-answered-requires-clause-sound : goal.answer_generator-answered-requires-clause-sound
 answer_generator-answered-requires-clause-sound g c = c.requires.sound
+
+pub returns-in-Some-clause-goes_on : goal.returns-in-Some-clause-goes_on
+returns-in-Some-clause-goes_on g c = record { later = goes-same g.D.Disk.image g.D.Disk.faults c.args.outside.now.disk.now; faults = c.print_refusal.ensures.faults; same = record { chooser = refl; answers = refl; disk = refl; sink = refl; steps = refl; text = refl } }
+
+pub returns-in-PassedOver-clause-goes_on : goal.returns-in-PassedOver-clause-goes_on
+returns-in-PassedOver-clause-goes_on g c = record { later = goes-same g.D.Disk.image g.D.Disk.faults c.args.outside.now.disk.now; faults = falls-same (g.K.Sink.faults c.args.outside.now.sink.now); same = record { chooser = refl; answers = refl; disk = refl; sink = refl; steps = refl; text = refl } }
+
+pub answer_line-answered-requires-clause-fits : goal.answer_line-answered-requires-clause-fits
+answer_line-answered-requires-clause-fits g c = subst Fits c.in-Says.is c.requires.fits
+
+pub answer_generator-answered-requires-clause-image : goal.answer_generator-answered-requires-clause-image
+answer_generator-answered-requires-clause-image g c = subst IsBootable (sym c.as_slice-image.ensures) (subst Fits c.in-Generates.is c.requires.fits).0
+
+pub answer_generator-answered-requires-clause-typed : goal.answer_generator-answered-requires-clause-typed
+answer_generator-answered-requires-clause-typed g c = subst (λ (x : List ℕ). length x < 2 ^ 32) (sym c.as_slice-typed.ensures) (subst Fits c.in-Generates.is c.requires.fits).1
