@@ -1,6 +1,7 @@
 mod TurnLemmas
 mod LineLemmas
 mod ReadyLemmas
+mod MadeLemmas
 mod TellLemmas
 mod PartLemmas
 mod AnswerLemmas
