@@ -7,6 +7,7 @@ pub mod TablesForking
 pub mod TablesReceive
 pub mod TablesReceiving
 pub mod Groups
+pub mod Placing
 pub mod Turning
 pub mod Joining
 pub mod Sharing

@@ -10,6 +10,7 @@ ghost use Rattle.taint_state.specs.Heard.{heard_in};
 ghost use Rattle.taint_state.specs.Kept.{shown};
 
 use crate::group::{Group, MEMO};
+use crate::places::put;
 use arn_base::NoMemory;
 use std::mem;
 use taint_members::MemberSets;
@@ -75,13 +76,6 @@ fn carry_all(
     heard.carry(carrying)
 }
 
-/// Fresh sets are in the place of these.
-fn put_sets(sets: &mut SpanSets, fresh: SpanSets)
-    ensures { sets.new ≡ fresh }
-{
-    *sets = fresh;
-}
-
 impl Group {
     /// Carries the sets that are named over into fresh tables, and lets go of all others. After an
     /// error nothing is known of what is kept.
@@ -103,7 +97,7 @@ impl Group {
             &mut self.segments,
             &mut self.heard,
         );
-        put_sets(&mut self.sets, carrying.done());
+        put(&mut self.sets, carrying.done());
         all
     }
 

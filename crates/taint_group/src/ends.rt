@@ -5,7 +5,7 @@ ghost use Rattle.parts_model.specs.Numbered.{nth};
 ghost use Rattle.taint_group.specs.Groups.{IsSoundGroup, StepsBy};
 ghost use Rattle.taint_group.specs.Turns.{ChangesIn, Ends, HasStatus};
 
-use crate::group::Group;
+use crate::group::{Group, hear_empty};
 use arn_base::NoMemory;
 use std::alloc::Global;
 use taint_events::{empty, status};
@@ -73,9 +73,9 @@ impl Group {
         ensures { OnOk result (StepsBy (Faults pid) pid event len self.old self.new) }
     {
         faults_show();
-        let numbers = empty(*self.members.allocator(), len)?;
+        let alloc = *self.members.allocator();
         end_member(self.members.as_mut_slice(), pid);
-        self.heard.hear(event, numbers)
+        hear_empty(alloc, &mut self.heard, event, len)
     }
 
     /// A live member ends by a signal. After an error nothing is known of what is kept.
@@ -84,8 +84,8 @@ impl Group {
         ensures { OnOk result (StepsBy (Dies pid) pid event len self.old self.new) }
     {
         dies_show();
-        let numbers = empty(*self.members.allocator(), len)?;
+        let alloc = *self.members.allocator();
         end_member(self.members.as_mut_slice(), pid);
-        self.heard.hear(event, numbers)
+        hear_empty(alloc, &mut self.heard, event, len)
     }
 }

@@ -6,10 +6,9 @@ ghost use Rattle.taint_group.specs.Groups.{IsSoundGroup};
 ghost use Rattle.taint_group.specs.Moves.{HasChild, MayPlace};
 ghost use Rattle.taint_group.specs.Turns.{StepsFrom};
 
-use crate::group::{Group, return_member};
+use crate::group::{Group, hear_empty, return_member};
 use crate::places::place;
 use arn_base::NoMemory;
-use taint_events::empty;
 use taint_members::MemberSets;
 use taint_state::forks_show;
 
@@ -68,7 +67,6 @@ impl Group {
         let kid = child_of(self.members.as_mut_slice(), pid, event)?;
         return_member(self.members.as_mut_slice(), pid);
         may_place(&mut self.members, child, kid)?;
-        let numbers = empty(alloc, len)?;
-        self.heard.hear(event, numbers)
+        hear_empty(alloc, &mut self.heard, event, len)
     }
 }

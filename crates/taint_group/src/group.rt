@@ -1,6 +1,9 @@
 // What is kept of a group.
-ghost use Rattle.std.specs.Prelude.{◌≡◌, length, IfOk, OnOk};
+ghost use Rattle.std.specs.Prelude.{◌≡◌, ℕ, length, IfOk, List, OnOk};
 ghost use Rattle.acts_model.specs.Transfers.{Returns};
+ghost use Rattle.taint_events.specs.Bytes.{AreEmpty};
+ghost use Rattle.taint_state.specs.Events.{Hears, plain_heard};
+ghost use Rattle.taint_state.specs.Heard.{heard_in};
 ghost use Rattle.taint_state.specs.Goes.{TakesInstr, nothing_tracked};
 ghost use Rattle.taint_group.specs.Groups.{IsSoundGroup, ReturnsEntry, ReturnsIn, StepsBy, kept_of};
 ghost use Rattle.taint_state.specs.Kept.{shown};
@@ -28,6 +31,20 @@ pub struct Group {
     pub members: Vec<Option<MemberSets>>,
     pub segments: Vec<SetNumbers>,
     pub heard: HeardEvents,
+}
+
+/// An event is heard none of whose bytes has a set.
+pub fn hear_empty(
+    alloc: Global,
+    heard: &mut HeardEvents,
+    event: u64,
+    len: usize,
+) -> Result<(), NoMemory>
+    ensures { OnOk result ((numbers : List ℕ) × AreEmpty len numbers
+        × Hears (plain_heard event numbers) (heard_in heard.old) (heard_in heard.new)) }
+{
+    let numbers = empty(alloc, len)?;
+    heard.hear(event, numbers)
 }
 
 /// A call returns to a member that may be there.
@@ -108,8 +125,8 @@ impl Group {
         ensures { OnOk result (StepsBy (Returns pid) pid event len self.old self.new) }
     {
         returns_show();
-        let numbers = empty(*self.members.allocator(), len)?;
+        let alloc = *self.members.allocator();
         return_member(self.members.as_mut_slice(), pid);
-        self.heard.hear(event, numbers)
+        hear_empty(alloc, &mut self.heard, event, len)
     }
 }

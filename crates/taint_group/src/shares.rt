@@ -5,10 +5,10 @@ ghost use Rattle.taint_group.specs.Groups.{IsSoundGroup};
 ghost use Rattle.taint_group.specs.Moves.{AreHeldOnce, IsFreshSegment, IsKeyBy, PutsSegment, SharesAs, held_key};
 ghost use Rattle.taint_group.specs.Turns.{ChangesEntry, ChangesIn, LivesAs, StepsFrom};
 
-use crate::group::Group;
+use crate::group::{Group, hear_empty};
+use crate::places::put;
 use arn_base::NoMemory;
 use std::alloc::Global;
-use taint_events::empty;
 use taint_members::{MemberSets, Shared};
 use taint_pages::{SetNumbers, Unset};
 use taint_state::shares_show;
@@ -60,7 +60,7 @@ fn put_segment(
     ensures { OnOk result (PutsSegment key segment segments.old.items segments.new.items) }
 {
     if key < segments.len() {
-        segments[key] = segment;
+        put(&mut segments[key], segment);
     } else {
         segments.push(segment)?;
     }
@@ -104,7 +104,6 @@ impl Group {
             pid,
             Shared { made: event, key },
         );
-        let numbers = empty(alloc, len)?;
-        self.heard.hear(event, numbers)
+        hear_empty(alloc, &mut self.heard, event, len)
     }
 }

@@ -8,6 +8,7 @@ ghost use Rattle.taint_group.specs.Groups.{IsSoundGroup};
 ghost use Rattle.taint_group.specs.Turns.{ChangesEntry, ChangesIn, LivesAs, StartsAs, StepsFrom};
 
 use crate::group::Group;
+use crate::places::put;
 use arn_base::NoMemory;
 use std::alloc::Global;
 use taint_events::{received, started};
@@ -31,7 +32,7 @@ fn start_entry(
         entry.old entry.new) }
 {
     if let Some(member) = entry {
-        *member = started(
+        let fresh = started(
             alloc,
             event,
             member,
@@ -41,6 +42,7 @@ fn start_entry(
             layout.block,
             layout.block_len,
         )?;
+        put(member, fresh);
     }
     Ok(())
 }

@@ -4,9 +4,8 @@ ghost use Rattle.acts_model.specs.Transfers.{Delivers, Leaves};
 ghost use Rattle.taint_group.specs.Groups.{IsSoundGroup, StepsBy};
 ghost use Rattle.taint_group.specs.Turns.{ChangesEntry, ChangesIn, DeliversAs, LeavesAs, LivesAs};
 
-use crate::group::Group;
+use crate::group::{Group, hear_empty};
 use arn_base::NoMemory;
-use taint_events::empty;
 use taint_members::MemberSets;
 use taint_state::{delivers_show, leaves_show};
 
@@ -58,9 +57,9 @@ impl Group {
         ensures { OnOk result (StepsBy (Delivers pid cut) pid event len self.old self.new) }
     {
         delivers_show();
-        let numbers = empty(*self.members.allocator(), len)?;
+        let alloc = *self.members.allocator();
         deliver_member(self.members.as_mut_slice(), pid, cut);
-        self.heard.hear(event, numbers)
+        hear_empty(alloc, &mut self.heard, event, len)
     }
 
     /// A handler of a live member ends. After an error nothing is known of what is kept.
@@ -69,8 +68,8 @@ impl Group {
         ensures { OnOk result (StepsBy (Leaves pid) pid event len self.old self.new) }
     {
         leaves_show();
-        let numbers = empty(*self.members.allocator(), len)?;
+        let alloc = *self.members.allocator();
         leave_member(self.members.as_mut_slice(), pid);
-        self.heard.hear(event, numbers)
+        hear_empty(alloc, &mut self.heard, event, len)
     }
 }

@@ -3,7 +3,7 @@ use Rattle.parts_model.specs.Numbered.{nth}
 use Rattle.taint_group.proofs.places.grow.Given as goal
 
 abbrev pub invariant-loop : goal.invariant-loop
-invariant-loop l = record {
-  same : (p : ℕ) → nth l.members.items p ≡ nth l.fn.members.items p;
-  count : l.counter ≤ length l.members.items;
+invariant-loop g l = record {
+  same : (p : ℕ) → nth l.values.items p ≡ nth l.fn.values.items p;
+  count : l.counter ≤ length l.values.items;
 }

@@ -15,15 +15,15 @@ use Rattle.taint_group.proofs.group.Group.delivers.Goals as goal
 pub returns : goal.returns
 returns c =
     let g = c.args.self.now in
-    ok-map c.hear.result (λ heard. λ e before len.
+    ok-map c.hear_empty.result (λ nothing. λ e before len.
     if-map (nth g.members.items c.args.pid) (λ old both. record { follows = both.0; keyed = both.1 })
-    (changes-group (LivesAs (DeliversAs c.args.cut)) (λ old. event_by_member c.args.pid before (Delivers c.args.pid c.args.cut) c.args.event e) g.linkage c.args.pid (plain_heard c.args.event c.in_ok-numbers.numbers.items)
-    g.members.items c.as_mut_slice.result.now c.deliver_member.new.members _ g.segments.items g.sets g.sets (heard_of g) (heard_in c.hear.new.self)
+    (changes-group (LivesAs (DeliversAs c.args.cut)) (λ old. event_by_member c.args.pid before (Delivers c.args.pid c.args.cut) c.args.event e) g.linkage c.args.pid (plain_heard c.args.event nothing.0)
+    g.members.items c.as_mut_slice.result.now c.deliver_member.new.members _ g.segments.items g.sets g.sets (heard_of g) (heard_in c.hear_empty.new.heard)
     c.as_mut_slice.ensures.value
     (slice-back g.members.len g.members.items c.deliver_member.new.members (omega arith))
-    heard c.requires.sound (stand-still g.sets) (lives-hold (DeliversAs c.args.cut) (λ o n to. inl (ap (λ (m : MemberSets). m.segment) to.others)))
+    nothing.2 c.requires.sound (stand-still g.sets) (lives-hold (DeliversAs c.args.cut) (λ o n to. inl (ap (λ (m : MemberSets). m.segment) to.others)))
     (λ o is m lives becomes.
     becomes-some (DeliversAs c.args.cut) o m _ _ _ _ _ _ lives becomes (λ n to next.
-    c.delivers_show.ensures _ _ c.args.pid c.args.event e before c.args.cut (kept_member g.segments.items o) (kept_member g.segments.items n) c.in_ok-numbers.numbers.items c.requires.sound.kept (subst (λ n. AreEmpty n c.in_ok-numbers.numbers.items) (sym len) c.in_ok-numbers.ensures)
+    c.delivers_show.ensures _ _ c.args.pid c.args.event e before c.args.cut (kept_member g.segments.items o) (kept_member g.segments.items n) nothing.0 c.requires.sound.kept (subst (λ n. AreEmpty n nothing.0) (sym len) nothing.1)
     (record { saved = to.saved; result = to.result; others = ap (kept_member g.segments.items) to.others }) next))
-    c.deliver_member.ensures.delivers)) c.hear.ensures
+    c.deliver_member.ensures.delivers)) c.hear_empty.ensures

@@ -12,11 +12,11 @@ returns c =
     let members = c.args.self.now.members in
     let again = c.as_mut_slice-2.ensures.value ∙ slice-same members.len members.items c.as_mut_slice.result.now c.child_of.new.members c.as_mut_slice.ensures.value c.child_of.ensures.same (omega arith) in
     let long = ap (λ l. length l) again in
-    ok-map c.hear.result (λ heard. λ e before len.
+    ok-map c.hear_empty.result (λ nothing. λ e before len.
     if-map (nth c.args.self.now.members.items c.args.pid) (λ old both. record { follows = both.0; keyed = both.1 })
-    (forks-group c.args.self.now.linkage (heard_of c.args.self.now) (heard_in c.hear.new.self) c.args.pid c.args.child c.args.event c.in_ok-numbers.numbers.items c.args.len
+    (forks-group c.args.self.now.linkage (heard_of c.args.self.now) (heard_in c.hear_empty.new.heard) c.args.pid c.args.child c.args.event nothing.0 c.args.len
     members.items c.as_mut_slice-2.result.now c.return_member.new.members _ c.may_place.new.members.items c.args.self.now.segments.items c.args.self.now.sets c.in_ok-kid.kid
     again (slice-back members.len _ c.return_member.new.members (omega arith))
-    heard c.forks_show.ensures c.requires.sound c.in_ok-numbers.ensures c.return_member.ensures.returns
+    nothing.2 c.forks_show.ensures c.requires.sound nothing.1 c.return_member.ensures.returns
     (subst (λ l. HasChild c.args.event (nth l c.args.pid) c.in_ok-kid.kid) c.as_mut_slice.ensures.value c.in_ok-kid.ensures.child)
-    c.in_ok-may_place.ensures e before len)) c.hear.ensures
+    c.in_ok-may_place.ensures e before len)) c.hear_empty.ensures

@@ -14,12 +14,12 @@ key_for-key-requires c = record {
 
 pub returns : goal.returns
 returns c =
-    ok-map c.hear.result (λ heard. λ e before len.
+    ok-map c.hear_empty.result (λ nothing. λ e before len.
     if-map (nth c.args.self.now.members.items c.args.pid) (λ old both. record { follows = both.0; keyed = both.1 })
-    (shares-group c.args.self.now.linkage (heard_of c.args.self.now) (heard_in c.hear.new.self) c.args.pid c.args.event c.key_for-key.result c.in_ok-numbers.numbers.items c.args.len c.in_ok-segment.segment
+    (shares-group c.args.self.now.linkage (heard_of c.args.self.now) (heard_in c.hear_empty.new.heard) c.args.pid c.args.event c.key_for-key.result nothing.0 c.args.len c.in_ok-segment.segment
     c.args.self.now.members.items c.as_mut_slice.result.now c.share_member.new.members _ c.args.self.now.segments.items c.put_segment.new.segments.items c.args.self.now.sets
     c.as_mut_slice.ensures.value
     (slice-back c.args.self.now.members.len c.args.self.now.members.items c.share_member.new.members (omega arith))
-    heard c.shares_show.ensures c.requires.sound c.in_ok-numbers.ensures
+    nothing.2 c.shares_show.ensures c.requires.sound nothing.1
     (subst (IsKeyBy c.args.event c.key_for-key.result) c.as_slice.ensures.value c.key_for-key.ensures.own)
-    c.in_ok-segment.ensures c.in_ok-put_segment.ensures c.share_member.ensures.shares e before len)) c.hear.ensures
+    c.in_ok-segment.ensures c.in_ok-put_segment.ensures c.share_member.ensures.shares e before len)) c.hear_empty.ensures
