@@ -1,5 +1,6 @@
 pub mod Locals
 pub mod Lists
+pub mod More
 pub mod Pairs
 pub mod Taking
 pub mod Outward
