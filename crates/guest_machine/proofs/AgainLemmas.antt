@@ -1,7 +1,10 @@
 -- Inputs that records name, run again: refused ones do nothing, and devices answer as records say.
-use Rattle.std.proofs.Common.{◌≡◌, ◌⊎◌, inl, inr, ℕ, zero, suc, ◌+◌, ◌≤◌, ◌++◌, Bool, true, false, cond, nat_lt, List, [], ◌∷◌, length, Option, None, Some, option_map, refl, sym, ap, ◌∙◌, arith, append-nil}
+use Rattle.std.proofs.Common.{◌≡◌, ◌⊎◌, inl, inr, ℕ, zero, suc, ◌+◌, ◌≤◌, ◌++◌, Bool, true, false, cond, nat_lt, List, [], ◌∷◌, length, Option, None, Some, option_map, OnOk, Result, refl, sym, ap, subst, ◌∙◌, arith, append-nil}
+use Rattle.std.specs.Prelude.{count_by}
 use Rattle.std.proofs.lemmas.Bool.Decides.{nat_tests}
+use Rattle.arn_base.specs.declared.records.Extra.{Extra}
 use Rattle.arn_base.specs.declared.records.Record.{Record}
+use Rattle.arn_base.specs.declared.records.Record.TheVariants as entry
 use Rattle.parts_model.specs.Replies.{Answered}
 use Rattle.acts_model.specs.Bodies.{View, seen}
 use Rattle.arn_model.specs.Kernel.{Machine}
@@ -12,15 +15,17 @@ use Rattle.rv64_model.specs.Instruction.{Effect, Next, Call, End}
 use Rattle.acts_model.specs.Views.{stands_at}
 use Rattle.arn_model.specs.Doing.{Request, Waits, Does, Asks}
 use Rattle.arn_model.specs.Row.{does, request}
-use Rattle.log_model.specs.Records.{slice_records}
+use Rattle.log_model.specs.Records.{reply_behind, slice_records}
 use Rattle.arn_model.specs.Step.{Step, call_step, last_by}
 use Rattle.arn_model.specs.Turn.{Turn, after_steps, is_possible, last_in, last_of, plain_in, plains, steps_of, steps_then, turn}
 use Rattle.guest_bodies.specs.Shown.{IsLive}
 use Rattle.guest_devices.specs.Answers.{Asked}
 use Rattle.guest_devices.specs.Told.{CountsHere, CountsReads}
+use Rattle.guest_calls.specs.State.{StandsFor}
+use Rattle.guest_machine.specs.Again.{is_slice, named_first}
 use Rattle.guest_machine.specs.Recorded.{OfEach, Recorded, Runs}
 use Rattle.guest_machine.specs.Slices.{Begun, CanTake, IsCut, IsPart, RanSlice, Unbegun, delivered}
-use Rattle.guest_machine.proofs.RunsLemmas.{Runs-one}
+use Rattle.guest_machine.proofs.RunsLemmas.{Runs-none, Runs-one}
 use Rattle.guest_machine.proofs.SliceLemmas.{can-turn}
 use Rattle.guest_machine.proofs.ToldLemmas.{Tells, turn-told}
 use Rattle.guest_machine.proofs.TurnLemmas.{sees}
@@ -126,3 +131,25 @@ cut-few parts pid count reply r r' out out' steps steps' live can cut few m stan
         let part = ap instructions_in (append-nil (input_steps m (Slice pid k None)) ∙ can-turn m pid count k v.0 None v.1 (can m stands) (omega (arith, within))) in
         let whole = ap instructions_in (can-turn m pid count count v.0 reply v.1 (can m stands) (omega arith)) in
         omega (arith, few, runs.counted, part, whole, turn-fewer parts m pid k count None reply (omega (arith, within)))
+
+-- the input that a record names has run
+pub Runs-named : {T E : Type 0} (done : Result T E) (e named : Record) (behind : List Record) (r r' : Recorded) (out out' : List Record) → e ≡ named → OnOk done (OfEach r.kernel (λ m. Runs m (named_first named behind) r r' out out'))
+    → OnOk done (OfEach r.kernel (λ m. Runs m (named_first e behind) r r' out out'))
+Runs-named done e named behind r r' out out' is runs = subst (λ (x : Record). OnOk done (OfEach r.kernel (λ m. Runs m (named_first x behind) r r' out out'))) (sym is) runs
+
+-- or it names none
+pub Runs-unnamed : (m : Machine) (e : Record) (behind : List Record) (r : Recorded) (out : List Record) → named_first e behind ≡ [] → StandsFor r.kernel m → Runs m (named_first e behind) r r out out
+Runs-unnamed m e behind r out none stands = subst (λ (inputs : List Input). Runs m inputs r r out out) (sym none) (Runs-none m r out stands)
+
+pub unnamed : (e : Record) (behind : List Record) → ((pid : ℕ) × (signal : ℕ) × (cut : Bool) × (handler : ℕ) × e ≡ entry.Signal pid signal cut handler) ⊎ (((pid : ℕ) × (number : ℕ) × (answer : ℕ) × (did : Extra) × e ≡ entry.Call pid number answer did) ⊎ ((pid : ℕ) × (status : ℕ) × e ≡ entry.End pid status))
+    → named_first e behind ≡ []
+unnamed e behind (inl s) = ap (λ (x : Record). named_first x behind) s.4
+unnamed e behind (inr (inl s)) = ap (λ (x : Record). named_first x behind) s.4
+unnamed e behind (inr (inr s)) = ap (λ (x : Record). named_first x behind) s.2
+
+-- how many steps a slice took that a record names
+pub steps-of-slice : (m : Machine) (e : Record) (pid ran : ℕ) (behind : List Record) (steps steps' : ℕ) → e ≡ entry.Slice pid ran → steps' ≤ steps + instructions_in (input_steps m (Slice pid ran (reply_behind behind))) + 1
+    → steps' ≤ steps + instructions_in (steps_from m (named_first e behind)) + count_by is_slice (e ∷ [])
+steps-of-slice m e pid ran behind steps steps' is few =
+    subst (λ (x : Record). steps' ≤ steps + instructions_in (steps_from m (named_first x behind)) + count_by is_slice (x ∷ [])) (sym is)
+    (omega (arith, few, ap instructions_in (append-nil (input_steps m (Slice pid ran (reply_behind behind))))))

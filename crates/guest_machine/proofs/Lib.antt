@@ -21,3 +21,5 @@ pub mod GoneLemmas
 pub mod TookLemmas
 pub mod SeenLemmas
 pub mod InSlotsLemmas
+pub mod Outside
+pub mod GivenLemmas

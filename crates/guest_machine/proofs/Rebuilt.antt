@@ -1,8 +1,9 @@
 -- The machine to which the first of some records lead.
-use Rattle.std.proofs.Common.{◌≡◌, ℕ, ◌+◌, ◌<◌, ◌≤◌, ◌^◌, List, [], ◌∷◌, ◌++◌, length, get_or, take, drop, slice_get, cond, refl, sym, ap, ◌∙◌, subst, append_assoc, append-nil, take-append-drop, arith}
+use Rattle.std.proofs.Common.{◌≡◌, ℕ, ◌+◌, ◌<◌, ◌≤◌, ◌^◌, List, [], ◌∷◌, ◌++◌, length, get_or, take, drop, slice_get, cond, Result, Ok, Err, refl, sym, ap, ◌∙◌, subst, append_assoc, append-nil, take-append-drop, arith}
 use Rattle.std.specs.List.{between}
 use Rattle.std.specs.Prelude.{count_by}
 use Rattle.std.proofs.lemmas.List.{drop_all, drop_more, length-take-le, take_more}
+use Rattle.std.proofs.Math.Seq.{take-length}
 use Rattle.std.proofs.lemmas.List.Sums.{sum_by-append}
 use Rattle.std.proofs.lemmas.Slice.{between_to_end}
 use Rattle.arn_base.specs.declared.records.Record.{Record}
@@ -18,6 +19,8 @@ use Rattle.record_match.specs.Differs.{IsFirstDifference}
 use Rattle.guest_machine.specs.Again.{is_slice, rebuild_cost}
 use Rattle.guest_machine.specs.Laws.{RecordsFollow, RecordsLeaveRoom, RunsFollow}
 use Rattle.record_match.specs.Matching.{IsMatched, IsMismatch}
+use Rattle.record_match.specs.declared.differs.RebuildError.{RebuildError}
+use Rattle.record_match.specs.declared.differs.RebuildError.TheVariants as rebuild_error
 use Rattle.guest_machine.specs.Recorded.{Recorded, HasRoom, IsAfter, Runs, recorded_first}
 use Rattle.guest_machine.proofs.Appends.{instructions_in-append, steps_from-append}
 use Rattle.guest_machine.proofs.RealLemmas.{first-stands}
@@ -137,16 +140,42 @@ module _ (entries : List Record) (i : ℕ) (r : Recorded) (matched : ℕ) (steps
 pub differ_no_run : (entries : List Record) (d : Differs) → IsFirstDifference entries (records (named entries)) d → ¬ IsRun entries
 differ_no_run entries d first run = first.differ (ap (λ (xs : List Record). slice_get xs d.place) run)
 
-module _ (entries : List Record) (r : Recorded) (matched : ℕ) (steps0 steps : ℕ) (done : IsRebuilt entries (length entries) r matched steps0 steps) where
+-- where all records have been run
+module _ (entries : List Record) (r : Recorded) (matched steps0 steps i : ℕ) (within : i ≤ length entries) (end : length entries ≤ i) (done : IsRebuilt entries i r matched steps0 steps) where
   all-named : named entries ≡ done.inputs
-  all-named = done.front ∙ ap (λ (xs : List Record). done.inputs ++ named xs) (drop_all (length entries) entries (omega arith)) ∙ append-nil done.inputs
+  all-named = done.front ∙ ap (λ (xs : List Record). done.inputs ++ named xs) (drop_all i entries end) ∙ append-nil done.inputs
 
   records-all : records (named entries) ≡ take matched entries
   records-all = ap records all-named ∙ done.recorded
 
   -- a record is missing
-  pub IsRebuilt-missing : (d : Differs) → IsFirstDifference entries (take matched entries) d → IsFirstDifference entries (records (named entries)) d
-  IsRebuilt-missing d first = subst (λ (xs : List Record). IsFirstDifference entries xs d) (sym records-all) first
+  pub IsRebuilt-missing : {T : Type 0} (missing d : Differs) (s : Result T RebuildError) → s ≡ Err (rebuild_error.Differs missing) → s ≡ Err (rebuild_error.Differs d) → IsFirstDifference entries (take matched entries) missing → IsFirstDifference entries (records (named entries)) d
+  IsRebuilt-missing missing d s was same first = subst (λ (xs : List Record). IsFirstDifference entries xs d) (sym records-all) (subst (IsFirstDifference entries (take matched entries)) is first)
+    where
+      is : missing ≡ d
+      is = cc same
+
+  pub IsRebuilt-leads : IsAfter r (named entries)
+  IsRebuilt-leads = subst (IsAfter r) (sym all-named) done.after
+
+  pub IsRebuilt-steps : steps ≤ steps0 + rebuild_cost entries
+  IsRebuilt-steps =
+      let at : i ≡ length entries = omega (arith, within, end) in
+      let all : count_by is_slice (take i entries) ≡ count_by is_slice entries = ap (λ (k : ℕ). count_by is_slice (take k entries)) at ∙ ap (count_by is_slice) (take-length entries) in
+      omega (arith, done.few, done.after.counted, ap (λ (inputs : List Input). instructions_in (run inputs)) all-named, all)
+
+  -- none is missing
+  pub IsRebuilt-whole : length entries ≤ matched → IsRun entries
+  IsRebuilt-whole all =
+      let at : matched ≡ length entries = omega (arith, done.within, all) in
+      sym (records-all ∙ ap (λ (k : ℕ). take k entries) at ∙ take-length entries)
+
+-- no other error tells a difference
+pub no-memory : {T : Type 0} (r : Result T RebuildError) (e : RebuildError) (d : Differs) → r ≡ Err e → e ≡ rebuild_error.NoMemory → r ≡ Err (rebuild_error.Differs d) → ⊥
+no-memory r e d is no_memory differs = cc
+
+pub no-error : {T E : Type 0} (x : T) (e : E) → Ok x ≡ Err e → ⊥
+no-error x e is = cc
 
 -- the records behind the one at a place
 pub behind-is : (entries : List Record) (at i : ℕ) → at ≡ i → between (at + 1) (length entries) entries ≡ drop (i + 1) entries

@@ -1,5 +1,5 @@
 -- A turn of a state, from what its parts promise.
-use Rattle.std.proofs.Common.{◌≡◌, ℕ, ◌+◌, ◌<◌, true, false, Option, None, Some, IsSome, option_map, length, option_to_list, refl, sym, subst, ◌∙◌}
+use Rattle.std.proofs.Common.{◌≡◌, ◌≢◌, ℕ, ◌+◌, ◌<◌, ◌≤◌, true, false, Option, None, Some, IsSome, option_map, length, option_to_list, refl, sym, ap, subst, ◌∙◌, arith}
 use Rattle.arn_base.specs.declared.records.Record.{Record}
 use Rattle.rv64_core.specs.declared.outcome.Outcome.{Outcome}
 use Rattle.rv64_core.specs.declared.outcome.Outcome.TheVariants as outcome
@@ -76,3 +76,14 @@ take-part parts asked asked' old s1 s2 new pid n delivery stood live delivers ra
     let d = Delivers-in m pid v.0 delivery s1 v.1 (delivers m v.0 stands v.1) in
     let r = ran (delivered pid m) d.1 in
     took-part parts asked asked' m pid n stood.ran delivery new d.0 r.many within unasked (subst (λ (s : State). StandsFor s (after_steps (delivered pid m) (plains stood.ran pid (delivered pid m)))) (sym same) r.stands)
+
+at-most-one : {A : Type 0} (o : Option A) → length (option_to_list o) ≤ 1
+at-most-one None = omega arith
+at-most-one (Some x) = omega arith
+
+-- a call or an end is one of the instructions that may run
+pub within-counted : (o : Outcome) (ran count n : ℕ) (last : Option Record) → ran ≤ count → (o ≢ outcome.Next → ran < count) → (o ≡ outcome.Next → last ≡ None) → n ≡ length (option_to_list last) → ran + n ≤ count
+within-counted outcome.Next ran count n last within some none is = omega (arith, within, is ∙ ap (λ (l : Option Record). length (option_to_list l)) (none refl))
+within-counted outcome.Call ran count n last within some none is = omega (arith, some (λ same. cc), is, at-most-one last)
+within-counted (outcome.End status) ran count n last within some none is = omega (arith, some (λ same. cc), is, at-most-one last)
+within-counted outcome.NoMemory ran count n last within some none is = omega (arith, some (λ same. cc), is, at-most-one last)

@@ -5,6 +5,7 @@ mod able;
 mod again;
 mod boxed;
 mod errors;
+mod given;
 mod law;
 mod legs;
 mod machine;

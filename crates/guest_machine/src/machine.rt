@@ -1,5 +1,9 @@
+ghost use Rattle.std.specs.Prelude.{◌≡◌, IfOk};
+ghost use Rattle.arn_base.specs.declared.records.Record.TheVariants as kind;
+
 use crate::able::{Able, can_go_on, pick_slice, run_state, scan};
 use crate::errors::MachineError;
+use crate::given::push_after;
 use crate::turn::{Taken, take_turn};
 use arn_base::{Bytes, Chooser, NoMemory, Record, Steps};
 use arn_model::{RunState, turns_have_parts};
@@ -11,6 +15,15 @@ use parts_model::limits::MOST_SLICE;
 use std::alloc::Global;
 use std::marker::Model;
 use std::sync::ledger::Ledger;
+
+// The record of a boot file.
+fn file_entry(alloc: Global, name: &[u8], bytes: &[u8]) -> Result<Record, NoMemory>
+    ensures { IfOk result (λ entry. entry ≡ kind.File name.now bytes.now) }
+{
+    let name = Bytes::from_slice(alloc, name)?;
+    let bytes = Bytes::from_slice(alloc, bytes)?;
+    Ok(Record::File { name, bytes })
+}
 
 /// A machine, and how many instructions it has run.
 #[derive(Drop)]
@@ -129,15 +142,11 @@ impl Machine {
         if self.is_booted() {
             return Err(MachineError::Booted);
         }
-        let held = Bytes::from_slice(self.alloc, name)?;
-        let content = Bytes::from_slice(self.alloc, bytes)?;
         out.reserve(1)?;
+        let entry = file_entry(self.alloc, name, bytes)?;
         let event = self.kernel.events();
-        self.kernel.add_file(name, bytes, event)?;
-        out.push_reserved(Record::File {
-            name: held,
-            bytes: content,
-        });
+        let added = self.kernel.add_file(name, bytes, event);
+        push_after(out, entry, added)?;
         Ok(event)
     }
 
@@ -167,8 +176,8 @@ impl Machine {
         if self.is_booted() {
             return Err(MachineError::Booted);
         }
-        let held = Bytes::from_slice(self.alloc, name)?;
         out.reserve(1)?;
+        let held = Bytes::from_slice(self.alloc, name)?;
         let event = self.kernel.events();
         let give = self.kernel.boot(name)?;
         out.push_reserved(Record::Boot { name: held, give });
@@ -198,11 +207,11 @@ impl Machine {
         if !self.is_booted() {
             return Err(MachineError::NotBooted);
         }
-        let held = Bytes::from_slice(self.alloc, bytes)?;
         out.reserve(1)?;
+        let held = Bytes::from_slice(self.alloc, bytes)?;
         let event = self.kernel.events();
-        self.kernel.type_in(bytes, event)?;
-        out.push_reserved(Record::Typed { bytes: held });
+        let typed = self.kernel.type_in(bytes, event);
+        push_after(out, Record::Typed { bytes: held }, typed)?;
         Ok(event)
     }
 

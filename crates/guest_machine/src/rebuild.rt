@@ -1,5 +1,6 @@
 // The machine to which records lead.
 use crate::again::run_named;
+use crate::given::after;
 use crate::law::{records_follow, records_leave_room, runs_follow};
 use crate::machine::Machine;
 use arn_base::{Record, Steps};
@@ -36,8 +37,8 @@ impl Machine {
         ensures steps { steps.new ≤ steps.old + rebuild_cost entries.now }
     {
         let mut machine = Machine::new(alloc);
-        machine.run_again(alloc, entries, steps)?;
-        Ok(machine)
+        let done = machine.run_again(alloc, entries, steps);
+        after(machine, done)
     }
 
     // Runs the inputs that records name, from the start, and compares the records of each with these.

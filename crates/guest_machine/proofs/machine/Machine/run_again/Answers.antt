@@ -1,14 +1,13 @@
-use Rattle.std.proofs.Common.{rules, ◌≡◌, ◌+◌, ◌<◌, ◌^◌, ℕ, length, Err, ap, refl, subst, sym, arith}
-use Rattle.std.proofs.lemmas.Result.{err_from_is_err_and}
-use Rattle.arn_base.specs.declared.records.Differs.{Differs}
+use Rattle.std.proofs.Common.{rules, ◌≡◌, ◌+◌, ◌<◌, ◌^◌, ℕ, All, length, Err, ap, refl, subst, sym, arith}
+use Rattle.std.proofs.lemmas.List.Elements.{All-nil}
+use Rattle.std.proofs.lemmas.Result.{IfOk-from_err, err_from_is_err_and}
 use Rattle.arn_model.specs.Kernel.{Machine}
 use Rattle.arn_model.specs.Run.{machine_after}
-use Rattle.log_model.specs.Records.{named, records}
+use Rattle.result_log.specs.Spelling.{HasSpelling}
 use Rattle.guest_machine.specs.Recorded.{Recorded}
 use Rattle.record_match.specs.declared.differs.RebuildError.{RebuildError}
 use Rattle.record_match.specs.declared.differs.RebuildError.TheVariants as rebuild_error
-use Rattle.record_match.specs.Differs.{IsFirstDifference}
-use Rattle.guest_machine.proofs.Rebuilt.{IsRebuilt, IsRebuilt-missing, IsRebuilt-more, IsRebuilt-none, IsRebuilt-room, IsMismatch-first, behind-is, few-next}
+use Rattle.guest_machine.proofs.Rebuilt.{IsRebuilt, IsRebuilt-leads, IsRebuilt-missing, IsRebuilt-more, IsRebuilt-none, IsRebuilt-room, IsRebuilt-steps, IsRebuilt-whole, IsMismatch-first, behind-is, few-next, no-error, no-memory}
 use Rattle.guest_machine.proofs.machine.Machine.run_again.Goals as goal
 
 pub loop-entry-init : goal.loop-entry-init
@@ -60,13 +59,81 @@ loop-entry-preserved g c =
       place = ap (λ (n : ℕ). n + 1) c.loop-entry.invariant.place;
     }
 
+pub run_named-requires-clause-entry : goal.run_named-requires-clause-entry
+run_named-requires-clause-entry g c = subst HasSpelling (sym c.entry-item.is) (c.requires.spelled c.loop-entry.entry-index c.entry-item.result c.loop-entry-test.true)
+
+pub returns-in_err-run_named-clause-leads : goal.returns-in_err-run_named-clause-leads
+returns-in_err-run_named-clause-leads g c = IfOk-from_err c.from_residual.result _ c.from_residual.ensures.0
+
+pub returns-in_err-run_named-clause-is_run : goal.returns-in_err-run_named-clause-is_run
+returns-in_err-run_named-clause-is_run g c = IfOk-from_err c.from_residual.result _ c.from_residual.ensures.0
+
+pub returns-in_err-run_named-clause-differs : goal.returns-in_err-run_named-clause-differs
+returns-in_err-run_named-clause-differs g c d is_error =
+    let p = err_from_is_err_and c.from_residual.result c.from_residual.ensures.1 in
+    absurd (no-memory c.from_residual.result p.0 d p.1 p.2 is_error)
+
+pub match_records-requires-clause-within : goal.match_records-requires-clause-within
+match_records-requires-clause-within g c = c.loop-entry.invariant.rebuilt.within
+
+pub match_records-requires-clause-said : goal.match_records-requires-clause-said
+match_records-requires-clause-said g c = c.requires.spelled
+
+pub match_records-requires-clause-found : goal.match_records-requires-clause-found
+match_records-requires-clause-found g c =
+    subst (All HasSpelling) (sym c.as_slice.ensures.value) (c.in_ok-run_named.ensures.spelled (subst (All HasSpelling) (sym c.clear.ensures.items) (All-nil HasSpelling)))
+
+pub returns-in_err-matched-clause-leads : goal.returns-in_err-matched-clause-leads
+returns-in_err-matched-clause-leads g c = IfOk-from_err c.from_residual-in_err-matched.result _ c.from_residual-in_err-matched.ensures.0
+
+pub returns-in_err-matched-clause-is_run : goal.returns-in_err-matched-clause-is_run
+returns-in_err-matched-clause-is_run g c = IfOk-from_err c.from_residual-in_err-matched.result _ c.from_residual-in_err-matched.ensures.0
+
+pub loop-entry-smaller : goal.loop-entry-smaller
+loop-entry-smaller g c = omega (arith, c.loop-entry-test.true)
+
+pub first_missing-requires-clause-more : goal.first_missing-requires-clause-more
+first_missing-requires-clause-more g c = c.if-matched-entries.true
+
+pub first_missing-requires-clause-spelled : goal.first_missing-requires-clause-spelled
+first_missing-requires-clause-spelled g c = c.requires.spelled
+
+pub returns-in_err-missing-clause-leads : goal.returns-in_err-missing-clause-leads
+returns-in_err-missing-clause-leads g c = IfOk-from_err c.from_residual-in_err-missing.result _ c.from_residual-in_err-missing.ensures.0
+
+pub returns-in_err-missing-clause-is_run : goal.returns-in_err-missing-clause-is_run
+returns-in_err-missing-clause-is_run g c = IfOk-from_err c.from_residual-in_err-missing.result _ c.from_residual-in_err-missing.ensures.0
+
+pub returns-in_err-missing-clause-differs : goal.returns-in_err-missing-clause-differs
+returns-in_err-missing-clause-differs g c d is_error =
+    let p = err_from_is_err_and c.from_residual-in_err-missing.result c.from_residual-in_err-missing.ensures.1 in
+    absurd (no-memory c.from_residual-in_err-missing.result p.0 d p.1 p.2 is_error)
+
+pub returns-in_err-missing-clause-steps : goal.returns-in_err-missing-clause-steps
+returns-in_err-missing-clause-steps g c = IsRebuilt-steps c.args.entries.now c.loop-entry.self c.loop-entry.matched c.args.steps.now c.loop-entry.steps c.loop-entry.entry-index c.loop-entry.auto.entry-index-end c.loop-entry-test.false c.loop-entry.invariant.rebuilt
+
+pub returns-then-matched-entries-clause-leads : goal.returns-then-matched-entries-clause-leads
+returns-then-matched-entries-clause-leads g c = tt
+
+pub returns-then-matched-entries-clause-is_run : goal.returns-then-matched-entries-clause-is_run
+returns-then-matched-entries-clause-is_run g c = tt
+
 pub returns-then-matched-entries-clause-differs : goal.returns-then-matched-entries-clause-differs
 returns-then-matched-entries-clause-differs g c d is_error =
-    let entries = c.args.entries.now in
-    let matched = c.loop-entry.matched in
-    let end : c.loop-entry.entry-index ≡ length entries = omega arith in
-    let done : IsRebuilt entries (length entries) c.loop-entry.self matched c.args.steps.now c.loop-entry.steps =
-    subst (λ (n : ℕ). IsRebuilt entries n c.loop-entry.self matched c.args.steps.now c.loop-entry.steps) end c.loop-entry.invariant.rebuilt in
-    let same : c.in_ok-missing.missing ≡ d = cc in
-    subst (λ (x : Differs). IsFirstDifference entries (records (named entries)) x) same
-    (IsRebuilt-missing entries c.loop-entry.self matched c.args.steps.now c.loop-entry.steps done c.in_ok-missing.missing c.in_ok-missing.ensures)
+    IsRebuilt-missing c.args.entries.now c.loop-entry.self c.loop-entry.matched c.args.steps.now c.loop-entry.steps c.loop-entry.entry-index c.loop-entry.auto.entry-index-end c.loop-entry-test.false c.loop-entry.invariant.rebuilt
+    c.in_ok-missing.missing d (Err (rebuild_error.Differs c.in_ok-missing.missing)) refl is_error c.in_ok-missing.ensures
+
+pub returns-then-matched-entries-clause-steps : goal.returns-then-matched-entries-clause-steps
+returns-then-matched-entries-clause-steps g c = IsRebuilt-steps c.args.entries.now c.loop-entry.self c.loop-entry.matched c.args.steps.now c.loop-entry.steps c.loop-entry.entry-index c.loop-entry.auto.entry-index-end c.loop-entry-test.false c.loop-entry.invariant.rebuilt
+
+pub returns-clause-leads : goal.returns-clause-leads
+returns-clause-leads g c = IsRebuilt-leads c.args.entries.now c.loop-entry.self c.loop-entry.matched c.args.steps.now c.loop-entry.steps c.loop-entry.entry-index c.loop-entry.auto.entry-index-end c.loop-entry-test.false c.loop-entry.invariant.rebuilt
+
+pub returns-clause-is_run : goal.returns-clause-is_run
+returns-clause-is_run g c = IsRebuilt-whole c.args.entries.now c.loop-entry.self c.loop-entry.matched c.args.steps.now c.loop-entry.steps c.loop-entry.entry-index c.loop-entry.auto.entry-index-end c.loop-entry-test.false c.loop-entry.invariant.rebuilt c.if-matched-entries.false
+
+pub returns-clause-differs : goal.returns-clause-differs
+returns-clause-differs g c d is_error = absurd (no-error tt (rebuild_error.Differs d) is_error)
+
+pub returns-clause-steps : goal.returns-clause-steps
+returns-clause-steps g c = IsRebuilt-steps c.args.entries.now c.loop-entry.self c.loop-entry.matched c.args.steps.now c.loop-entry.steps c.loop-entry.entry-index c.loop-entry.auto.entry-index-end c.loop-entry-test.false c.loop-entry.invariant.rebuilt

@@ -1,13 +1,36 @@
-use Rattle.std.proofs.Common.{◌+◌, ◌∙◌, ap, refl}
+use Rattle.std.proofs.Common.{◌+◌, ◌++◌, ◌∷◌, [], ◌∙◌, ◌≡◌, List, ℕ, ap, refl, sym}
+use Rattle.arn_base.specs.declared.records.Record.{Record}
+use Rattle.arn_base.specs.declared.records.Record.TheVariants as entry
 use Rattle.arn_model.specs.Run.{typed_step}
+use Rattle.guest_calls.specs.State.{Becomes}
 use Rattle.guest_machine.specs.Recorded.{Recorded}
 use Rattle.guest_machine.proofs.MachineLemmas.{becomes-next, becomes-real}
+use Rattle.guest_machine.proofs.Outside.{runs-typed, where-ok}
+use Rattle.guest_machine.proofs.RunsLemmas.{spelled-push}
 use Rattle.guest_machine.proofs.machine.Machine.type_in.Goals as goal
 
+-- the kernel took the piece, and its record stands behind the others
+typed : (c : goal.In_ok-push_after) → Becomes c.self.inside.kernel (λ m. (typed_step m c.args.bytes.now).after) c.type_in-typed.new.self
+typed c = where-ok c.type_in-typed.result c.push_after.result c.in_ok-push_after.field-0 _ c.push_after.ensures.same c.in_ok-push_after.was c.type_in-typed.ensures.typed
+
+pushed : (c : goal.In_ok-push_after) → c.push_after.new.out.items ≡ c.args.out.now.items ++ entry.Typed c.args.bytes.now ∷ []
+pushed c =
+    c.in_ok-push_after.ensures.ok
+    ∙ ap (λ (xs : List Record). xs ++ entry.Typed c.in_ok-held.held ∷ []) c.in_ok-reserve.ensures.items
+    ∙ ap (λ (bytes : List ℕ). c.args.out.now.items ++ entry.Typed bytes ∷ []) c.in_ok-held.ensures
+
 pub invariant_of-self-2 : goal.invariant_of-self-2
-invariant_of-self-2 c = becomes-real c.self.inside.kernel c.type_in.new.self (λ m. (typed_step m c.args.bytes.now).after) c.self.invariant c.in_ok-type_in.ensures.typed
+invariant_of-self-2 c = becomes-real c.self.inside.kernel c.type_in-typed.new.self (λ m. (typed_step m c.args.bytes.now).after) c.self.invariant (typed c)
 
 pub returns-clause-next : goal.returns-clause-next
 returns-clause-next c =
-    becomes-next c.self.inside.kernel c.type_in.new.self (λ m. (typed_step m c.args.bytes.now).after) c.self.invariant (λ m. refl) c.in_ok-type_in.ensures.typed
+    becomes-next c.self.inside.kernel c.type_in-typed.new.self (λ m. (typed_step m c.args.bytes.now).after) c.self.invariant (λ m. refl) (typed c)
     ∙ ap (λ (r : Recorded). r.kernel.events + 1) c.self.view_is
+
+pub returns-clause-runs : goal.returns-clause-runs
+returns-clause-runs c =
+    runs-typed c.self.inside.kernel c.type_in-typed.new.self c.self.inside.instructions c.args.self.now c.args.out.now.items c.push_after.new.out.items c.self.view_is c.args.bytes.now
+    (sym c.is_booted.ensures ∙ c.if-not-is_booted.false) (typed c) (pushed c)
+
+pub returns-clause-spelled : goal.returns-clause-spelled
+returns-clause-spelled c all = spelled-push c.args.out.now.items c.push_after.new.out.items (entry.Typed c.args.bytes.now) c.requires.bytes (pushed c) all

@@ -1,8 +1,12 @@
-use Rattle.std.proofs.Common.{◌≡◌, ◌+◌, ◌∙◌, Ok, true, ap, refl, sym}
+use Rattle.std.proofs.Common.{◌≡◌, ◌+◌, ◌++◌, ◌∷◌, [], ◌∙◌, List, Ok, true, ap, refl, sym}
+use Rattle.arn_base.specs.declared.records.Record.{Record}
+use Rattle.arn_base.specs.declared.records.Record.TheVariants as entry
 use Rattle.arn_model.specs.Run.{unplug_step}
 use Rattle.arn_model.specs.TransferCalls.{was_unplugged}
 use Rattle.guest_machine.specs.Recorded.{Recorded}
 use Rattle.guest_machine.proofs.MachineLemmas.{becomes-next, becomes-real, is-added}
+use Rattle.guest_machine.proofs.Outside.{runs-unplug}
+use Rattle.guest_machine.proofs.RunsLemmas.{spelled-push}
 use Rattle.guest_machine.proofs.machine.Machine.unplug_number.Goals as goal
 
 -- the kernel adds the number
@@ -17,3 +21,14 @@ pub returns-clause-next : goal.returns-clause-next
 returns-clause-next c =
     becomes-next c.self.inside.kernel c.unplug.new.self (λ m. (unplug_step m c.args.device).after) c.self.invariant (λ m. refl) (c.unplug.ensures.unplugged (done c))
     ∙ ap (λ (r : Recorded). r.kernel.events + 1) c.self.view_is
+
+pushed : (c : goal.After-push_reserved) → c.push_reserved.new.self.items ≡ c.args.out.now.items ++ entry.Unplug c.args.device ∷ []
+pushed c = c.push_reserved.ensures.items ∙ ap (λ (xs : List Record). xs ++ entry.Unplug c.args.device ∷ []) c.in_ok-reserve.ensures.items
+
+pub returns-clause-runs : goal.returns-clause-runs
+returns-clause-runs c =
+    runs-unplug c.self.inside.kernel c.unplug.new.self c.self.inside.instructions c.args.self.now c.args.out.now.items c.push_reserved.new.self.items c.self.view_is c.args.device
+    (sym c.is_booted.ensures ∙ c.if-not-is_booted.false) (sym c.was_unplugged.ensures ∙ c.if-was_unplugged.false) (c.unplug.ensures.unplugged (done c)) (pushed c)
+
+pub returns-clause-spelled : goal.returns-clause-spelled
+returns-clause-spelled c all = spelled-push c.args.out.now.items c.push_reserved.new.self.items (entry.Unplug c.args.device) tt (pushed c) all
