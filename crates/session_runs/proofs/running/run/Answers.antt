@@ -1,5 +1,5 @@
 use Rattle.std.proofs.Common.{◌≡◌, ◌-◌, Some, IfSome, arith, sym, subst}
-use Rattle.std.proofs.lemmas.Result.{IfErr-weaker, on_ok_weaker}
+use Rattle.std.proofs.lemmas.Result.{IfErr-weaker, IfOk-from_err, on_ok_weaker}
 use Rattle.log_model.specs.Records.{IsRun}
 use Rattle.session_runs.specs.Points.{around}
 use Rattle.session_runs.specs.Ready.{machine_of}
@@ -7,7 +7,7 @@ use Rattle.session_runs.specs.Runs.{begun, ends, run_from}
 use Rattle.session_runs.specs.Runs as runs
 use Rattle.session_runs.specs.Turns.{finished}
 use Rattle.session_runs.specs.Touches.{answering}
-use Rattle.session_runs.proofs.LoopLemmas.{if-some, told-some}
+use Rattle.session_runs.proofs.LoopLemmas.{if-some, on_ok, told-some}
 use Rattle.session_runs.proofs.StopLemmas.{Advances-end, Stops-end}
 use Rattle.session_runs.proofs.TakenLemmas.{Carries-text, err-same}
 use Rattle.session_runs.proofs.running.run.Goals as goal
@@ -86,3 +86,33 @@ pub returns-clause-goes_on : goal.returns-clause-goes_on
 returns-clause-goes_on g c =
     let gone = c.loop-end.invariant.goes_on in
     record { later = gone.later; faults = c.causes_follow.ensures.falls _ _ _ gone.faults c.print_ran.ensures.faults; same = record { chooser = gone.same.chooser; answers = gone.same.answers; disk = gone.same.disk; sink = gone.same.sink; steps = gone.same.steps; text = gone.same.text } }
+
+pub returns-in_err-leg-clause-ready : goal.returns-in_err-leg-clause-ready
+returns-in_err-leg-clause-ready g c = IfOk-from_err c.from_residual.result _ c.from_residual.ensures.0
+
+pub returns-in_err-leg-clause-advances : goal.returns-in_err-leg-clause-advances
+returns-in_err-leg-clause-advances g c = IfOk-from_err c.from_residual.result _ c.from_residual.ensures.0
+
+pub returns-in_err-leg-clause-goes_on : goal.returns-in_err-leg-clause-goes_on
+returns-in_err-leg-clause-goes_on g c = c.goings_follow.ensures.later c.args.outside.now c.loop-end.outside c.run_leg.new.outside c.loop-end.invariant.goes_on c.run_leg.ensures.goes_on
+
+pub returns-clause-ready : goal.returns-clause-ready
+returns-clause-ready g c = on_ok c.print_ran.result c.loop-end.invariant.ready
+
+pub run_leg-requires-clause-open : goal.run_leg-requires-clause-open
+run_leg-requires-clause-open g c = c.loop-end.invariant.so_far.carries.stays_open
+
+pub run_leg-requires-clause-ready : goal.run_leg-requires-clause-ready
+run_leg-requires-clause-ready g c = c.loop-end.invariant.ready
+
+pub run_leg-requires-clause-few : goal.run_leg-requires-clause-few
+run_leg-requires-clause-few g c = omega (arith, c.loop-end.invariant.within, c.requires.few)
+
+pub overflow_sub-left : goal.overflow_sub-left
+overflow_sub-left g c = c.in_ok-leg.ensures.within
+
+pub returns-in_err-leg-clause-cause : goal.returns-in_err-leg-clause-cause
+returns-in_err-leg-clause-cause g c =
+    let why = c.in_err-leg.field-0.0 in
+    err-same c.from_residual.result why _ c.from_residual.ensures.1
+    (c.goings_follow.ensures.cause why c.args.outside.now c.loop-end.outside c.run_leg.new.outside c.loop-end.invariant.goes_on c.run_leg.ensures.goes_on c.in_err-leg.ensures.cause)

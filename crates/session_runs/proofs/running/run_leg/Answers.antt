@@ -1,5 +1,6 @@
 use Rattle.std.proofs.Common.{◌≡◌, ◌<◌, ◌^◌, ◌++◌, ◌∙◌, ℕ, List, [], ◌∷◌, length, map, inl, arith, refl, sym, ap, subst, append-nil}
 use Rattle.std.proofs.lemmas.Bool.{eqb-false, eqb-true}
+use Rattle.std.proofs.lemmas.Result.{IfOk-from_err}
 use Rattle.arn_base.specs.declared.records.Record.{Record}
 use Rattle.log_model.specs.Records.{IsRun, named}
 use Rattle.guest_legs.specs.Legs.{fresh, going_by, input_of, unanswered}
@@ -14,6 +15,7 @@ use Rattle.session_runs.specs.Ready.{IsReady, machine_of}
 use Rattle.session_runs.specs.Runs.{leg_effects}
 use Rattle.session_runs.specs.Touches.{answering}
 use Rattle.session_runs.proofs.LegLemmas.{ready-recorded}
+use Rattle.session_runs.proofs.LoopLemmas.{still-falls, still-goes}
 use Rattle.session_runs.proofs.StopLemmas.{Stops-lost, Stops-memory, Stops-text, cut-executed}
 use Rattle.session_runs.proofs.TakenLemmas.{Advances-taken, Carries-leg, Carries-none, Taken, ends-taken, err-same, leg-text, more-taken, room-for, taken}
 use Rattle.session_runs.proofs.running.run_leg.Goals as goal
@@ -251,3 +253,111 @@ returns-clause-more g c more =
     let t : Taken g.A.Answers.answers m c.args.left leg entries old new = taken g.A.Answers.answers laws.legs history c.args.left leg c.args.machine.now c.run_leg_from.new.self old.choices new.choices c.args.outside.now.answers.now c.run_leg_from.new.answers c.new-entries.result.items entries old.steps new.steps is_leg c.new-entries.ensures.items in
     let all : c.commit.new.store.entries ≡ history ++ entries = (c.in_ok-commit.ensures.carries (g.K.Sink.holds c.args.outside.now.sink.now)).entries ∙ ap (λ (x : List Record). history ++ x) (append-nil entries) in
     more-taken (answering g.A.Answers.answers g.A.Plugs.unplugs g.A.Plugs.filled) laws.names laws.begin laws.append history c.commit.new.store.entries c.args.left leg entries old new t all more
+
+pub returns-in_err-leg-clause-ready : goal.returns-in_err-leg-clause-ready
+returns-in_err-leg-clause-ready g c = IfOk-from_err c.from_residual.result _ c.from_residual.ensures.0
+
+pub returns-in_err-leg-clause-advances : goal.returns-in_err-leg-clause-advances
+returns-in_err-leg-clause-advances g c = IfOk-from_err c.from_residual.result _ c.from_residual.ensures.0
+
+pub returns-in_err-leg-clause-end : goal.returns-in_err-leg-clause-end
+returns-in_err-leg-clause-end g c = IfOk-from_err c.from_residual.result _ c.from_residual.ensures.0
+
+pub returns-in_err-leg-clause-within : goal.returns-in_err-leg-clause-within
+returns-in_err-leg-clause-within g c = IfOk-from_err c.from_residual.result _ c.from_residual.ensures.0
+
+pub returns-in_err-leg-clause-more : goal.returns-in_err-leg-clause-more
+returns-in_err-leg-clause-more g c = IfOk-from_err c.from_residual.result _ c.from_residual.ensures.0
+
+pub returns-in_err-push_outputs-clause-ready : goal.returns-in_err-push_outputs-clause-ready
+returns-in_err-push_outputs-clause-ready g c = IfOk-from_err c.from_residual-in_err-push_outputs.result _ c.from_residual-in_err-push_outputs.ensures.0
+
+pub returns-in_err-push_outputs-clause-advances : goal.returns-in_err-push_outputs-clause-advances
+returns-in_err-push_outputs-clause-advances g c = IfOk-from_err c.from_residual-in_err-push_outputs.result _ c.from_residual-in_err-push_outputs.ensures.0
+
+pub returns-in_err-push_outputs-clause-end : goal.returns-in_err-push_outputs-clause-end
+returns-in_err-push_outputs-clause-end g c = IfOk-from_err c.from_residual-in_err-push_outputs.result _ c.from_residual-in_err-push_outputs.ensures.0
+
+pub returns-in_err-push_outputs-clause-within : goal.returns-in_err-push_outputs-clause-within
+returns-in_err-push_outputs-clause-within g c = IfOk-from_err c.from_residual-in_err-push_outputs.result _ c.from_residual-in_err-push_outputs.ensures.0
+
+pub returns-in_err-push_outputs-clause-more : goal.returns-in_err-push_outputs-clause-more
+returns-in_err-push_outputs-clause-more g c = IfOk-from_err c.from_residual-in_err-push_outputs.result _ c.from_residual-in_err-push_outputs.ensures.0
+
+pub returns-in_err-commit-clause-ready : goal.returns-in_err-commit-clause-ready
+returns-in_err-commit-clause-ready g c = IfOk-from_err c.from_residual-in_err-commit.result _ c.from_residual-in_err-commit.ensures.0
+
+pub returns-in_err-commit-clause-advances : goal.returns-in_err-commit-clause-advances
+returns-in_err-commit-clause-advances g c = IfOk-from_err c.from_residual-in_err-commit.result _ c.from_residual-in_err-commit.ensures.0
+
+pub returns-in_err-commit-clause-end : goal.returns-in_err-commit-clause-end
+returns-in_err-commit-clause-end g c = IfOk-from_err c.from_residual-in_err-commit.result _ c.from_residual-in_err-commit.ensures.0
+
+pub returns-in_err-commit-clause-within : goal.returns-in_err-commit-clause-within
+returns-in_err-commit-clause-within g c = IfOk-from_err c.from_residual-in_err-commit.result _ c.from_residual-in_err-commit.ensures.0
+
+pub returns-in_err-commit-clause-more : goal.returns-in_err-commit-clause-more
+returns-in_err-commit-clause-more g c = IfOk-from_err c.from_residual-in_err-commit.result _ c.from_residual-in_err-commit.ensures.0
+
+pub returns-in_err-put_all-clause-ready : goal.returns-in_err-put_all-clause-ready
+returns-in_err-put_all-clause-ready g c = IfOk-from_err c.from_residual-in_err-put_all.result _ c.from_residual-in_err-put_all.ensures.0
+
+pub returns-in_err-put_all-clause-advances : goal.returns-in_err-put_all-clause-advances
+returns-in_err-put_all-clause-advances g c = IfOk-from_err c.from_residual-in_err-put_all.result _ c.from_residual-in_err-put_all.ensures.0
+
+pub returns-in_err-put_all-clause-end : goal.returns-in_err-put_all-clause-end
+returns-in_err-put_all-clause-end g c = IfOk-from_err c.from_residual-in_err-put_all.result _ c.from_residual-in_err-put_all.ensures.0
+
+pub returns-in_err-put_all-clause-within : goal.returns-in_err-put_all-clause-within
+returns-in_err-put_all-clause-within g c = IfOk-from_err c.from_residual-in_err-put_all.result _ c.from_residual-in_err-put_all.ensures.0
+
+pub returns-in_err-put_all-clause-more : goal.returns-in_err-put_all-clause-more
+returns-in_err-put_all-clause-more g c = IfOk-from_err c.from_residual-in_err-put_all.result _ c.from_residual-in_err-put_all.ensures.0
+
+pub returns-then-is_empty-clause-within : goal.returns-then-is_empty-clause-within
+returns-then-is_empty-clause-within g c = c.in_ok-leg.ensures.within
+
+pub returns-then-is_empty-clause-stops : goal.returns-then-is_empty-clause-stops
+returns-then-is_empty-clause-stops g c = tt
+
+pub returns-then-is_empty-clause-cause : goal.returns-then-is_empty-clause-cause
+returns-then-is_empty-clause-cause g c = tt
+
+pub returns-clause-within : goal.returns-clause-within
+returns-clause-within g c = c.in_ok-leg.ensures.within
+
+pub returns-clause-stops : goal.returns-clause-stops
+returns-clause-stops g c = tt
+
+pub returns-clause-cause : goal.returns-clause-cause
+returns-clause-cause g c = tt
+
+pub commit-requires-clause-open : goal.commit-requires-clause-open
+commit-requires-clause-open g c = c.requires.open
+
+pub returns-in_err-leg-clause-cause : goal.returns-in_err-leg-clause-cause
+returns-in_err-leg-clause-cause g c = err-same c.from_residual.result halt.NoMemory _ c.from_residual.ensures.1 tt
+
+pub returns-in_err-push_outputs-clause-cause : goal.returns-in_err-push_outputs-clause-cause
+returns-in_err-push_outputs-clause-cause g c = err-same c.from_residual-in_err-push_outputs.result halt.NoMemory _ c.from_residual-in_err-push_outputs.ensures.1 tt
+
+pub returns-in_err-leg-clause-goes_on : goal.returns-in_err-leg-clause-goes_on
+returns-in_err-leg-clause-goes_on g c = record { later = still-goes g.D.Disk.image g.D.Disk.faults c.args.outside.now.disk.now; faults = still-falls (g.K.Sink.faults c.args.outside.now.sink.now); same = record { chooser = refl; answers = refl; disk = refl; sink = refl; steps = refl; text = refl } }
+
+pub returns-then-is_empty-clause-goes_on : goal.returns-then-is_empty-clause-goes_on
+returns-then-is_empty-clause-goes_on g c = record { later = still-goes g.D.Disk.image g.D.Disk.faults c.args.outside.now.disk.now; faults = still-falls (g.K.Sink.faults c.args.outside.now.sink.now); same = record { chooser = refl; answers = refl; disk = refl; sink = refl; steps = refl; text = refl } }
+
+pub returns-in_err-push_outputs-clause-goes_on : goal.returns-in_err-push_outputs-clause-goes_on
+returns-in_err-push_outputs-clause-goes_on g c = record { later = still-goes g.D.Disk.image g.D.Disk.faults c.args.outside.now.disk.now; faults = still-falls (g.K.Sink.faults c.args.outside.now.sink.now); same = record { chooser = refl; answers = refl; disk = refl; sink = refl; steps = refl; text = refl } }
+
+pub returns-in_err-commit-clause-goes_on : goal.returns-in_err-commit-clause-goes_on
+returns-in_err-commit-clause-goes_on g c = record { later = c.commit.ensures.later; faults = still-falls (g.K.Sink.faults c.args.outside.now.sink.now); same = record { chooser = refl; answers = refl; disk = refl; sink = refl; steps = refl; text = refl } }
+
+pub returns-in_err-put_all-clause-goes_on : goal.returns-in_err-put_all-clause-goes_on
+returns-in_err-put_all-clause-goes_on g c = record { later = c.commit.ensures.later; faults = c.put_all.ensures.faults; same = record { chooser = refl; answers = refl; disk = refl; sink = refl; steps = refl; text = refl } }
+
+pub returns-clause-goes_on : goal.returns-clause-goes_on
+returns-clause-goes_on g c = record { later = c.commit.ensures.later; faults = c.put_all.ensures.faults; same = record { chooser = refl; answers = refl; disk = refl; sink = refl; steps = refl; text = refl } }
+
+pub returns-in_err-commit-clause-cause : goal.returns-in_err-commit-clause-cause
+returns-in_err-commit-clause-cause g c = err-same c.from_residual-in_err-commit.result c.in_err-commit.field-0.0 _ c.from_residual-in_err-commit.ensures.1 (c.in_err-commit.ensures.cause (g.K.Sink.faults c.args.outside.now.sink.now))
