@@ -23,3 +23,4 @@ pub mod SeenLemmas
 pub mod InSlotsLemmas
 pub mod Outside
 pub mod GivenLemmas
+pub mod Refused

@@ -1,5 +1,5 @@
 -- What inputs make of a state and of what stands behind it, one after the other.
-use Rattle.std.proofs.Common.{◌≡◌, ◌+◌, ◌++◌, ◌∙◌, List, [], ◌∷◌, sym, ap, subst, arith, append_assoc, append-nil, All, Result, Ok, Err, OnErr}
+use Rattle.std.proofs.Common.{◌≡◌, ◌+◌, ◌++◌, ◌∙◌, List, [], ◌∷◌, sym, ap, subst, arith, append_assoc, append-nil, All, Result, Ok, Err, IfOk, OnErr}
 use Rattle.std.proofs.lemmas.List.Elements.{All-append, All-cons, All-nil}
 use Rattle.arn_base.specs.declared.records.Record.{Record}
 use Rattle.result_log.specs.Spelling.{HasSpelling}
@@ -47,6 +47,11 @@ Runs-then m inputs more r r1 r2 out out1 out2 first next =
 pub on_err : (X E : Type 0) (r : Result X E) (P : Type 0) → P → OnErr r P
 on_err X E (Ok x) P p = tt
 on_err X E (Err e) P p = p
+
+-- what holds of each answer
+pub if-ok-all : {X E : Type 0} (r : Result X E) (P : X → Type 0) → ((x : X) → P x) → IfOk r P
+if-ok-all (Ok x) P all = all x
+if-ok-all (Err e) P all = tt
 
 -- one more record that has a spelling
 pub spelled-push : (out out' : List Record) (e : Record) → HasSpelling e → out' ≡ out ++ e ∷ [] → All HasSpelling out → All HasSpelling out'

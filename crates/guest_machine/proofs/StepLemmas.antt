@@ -366,3 +366,13 @@ module _ (old new : State) (pid n : ℕ) (stood : Stood) (first : IsLive old.gue
 
   pub many-few : Few stood.outcome stood.ran n
   many-few = few stood.outcome stood.ran n there.0 there.1
+
+-- where instructions end with a call, an end or no memory, the next one doesn't follow
+pub call-not-next : (o : Outcome) → o ≡ outcome.Call → o ≢ outcome.Next
+call-not-next o is next = cc
+
+pub end-not-next : (o : Outcome) (status : ℕ) → o ≡ outcome.End status → o ≢ outcome.Next
+end-not-next o status is next = cc
+
+pub lost-not-next : (o : Outcome) → o ≡ outcome.NoMemory → o ≢ outcome.Next
+lost-not-next o is next = cc

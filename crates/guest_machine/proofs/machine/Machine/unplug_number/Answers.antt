@@ -1,11 +1,13 @@
-use Rattle.std.proofs.Common.{◌≡◌, ◌+◌, ◌++◌, ◌∷◌, [], ◌∙◌, List, Ok, true, ap, refl, sym}
+use Rattle.std.proofs.Common.{◌≡◌, ◌+◌, ◌<◌, ◌^◌, ◌++◌, ◌∷◌, [], ◌∙◌, List, Ok, true, ap, refl, subst, sym}
+use Rattle.std.proofs.lemmas.Result.{err_from_is_err_and}
 use Rattle.arn_base.specs.declared.records.Record.{Record}
 use Rattle.arn_base.specs.declared.records.Record.TheVariants as entry
 use Rattle.arn_model.specs.Run.{unplug_step}
 use Rattle.arn_model.specs.TransferCalls.{was_unplugged}
-use Rattle.guest_machine.specs.Recorded.{Recorded}
+use Rattle.guest_machine.specs.Recorded.{IsReal, Recorded}
 use Rattle.guest_machine.proofs.MachineLemmas.{becomes-next, becomes-real, is-added}
 use Rattle.guest_machine.proofs.Outside.{runs-unplug}
+use Rattle.guest_machine.proofs.Refused.{memory-not-booted, memory-unplug-only}
 use Rattle.guest_machine.proofs.RunsLemmas.{spelled-push}
 use Rattle.guest_machine.proofs.machine.Machine.unplug_number.Goals as goal
 
@@ -32,3 +34,29 @@ returns-clause-runs c =
 
 pub returns-clause-spelled : goal.returns-clause-spelled
 returns-clause-spelled c all = spelled-push c.args.out.now.items c.push_reserved.new.self.items (entry.Unplug c.args.device) tt (pushed c) all
+
+pub invariant_of-self : goal.invariant_of-self
+invariant_of-self c = subst IsReal (sym c.in_err-unplug.ensures.err) c.self.invariant
+
+pub unplug-requires : goal.unplug-requires
+unplug-requires c = record { room = subst (λ (r : Recorded). r.kernel.events + 1 < 2 ^ 64) (sym c.self.view_is) c.requires.room.events }
+
+pub returns-in_err-unplug-clause-not_booted : goal.returns-in_err-unplug-clause-not_booted
+returns-in_err-unplug-clause-not_booted c =
+    let p = err_from_is_err_and c.from_residual-in_err-unplug.result c.from_residual-in_err-unplug.ensures.1 in
+    memory-not-booted c.from_residual-in_err-unplug.result p.0 p.1 p.2 _ (sym c.is_booted.ensures ∙ c.if-not-is_booted.false)
+
+pub returns-in_err-unplug-clause-only : goal.returns-in_err-unplug-clause-only
+returns-in_err-unplug-clause-only c =
+    let p = err_from_is_err_and c.from_residual-in_err-unplug.result c.from_residual-in_err-unplug.ensures.1 in
+    memory-unplug-only c.from_residual-in_err-unplug.result p.0 p.1 p.2
+
+pub returns-in_err-reserve-clause-not_booted : goal.returns-in_err-reserve-clause-not_booted
+returns-in_err-reserve-clause-not_booted c =
+    let p = err_from_is_err_and c.from_residual.result c.from_residual.ensures.1 in
+    memory-not-booted c.from_residual.result p.0 p.1 p.2 _ (sym c.is_booted.ensures ∙ c.if-not-is_booted.false)
+
+pub returns-in_err-reserve-clause-only : goal.returns-in_err-reserve-clause-only
+returns-in_err-reserve-clause-only c =
+    let p = err_from_is_err_and c.from_residual.result c.from_residual.ensures.1 in
+    memory-unplug-only c.from_residual.result p.0 p.1 p.2
