@@ -1,5 +1,5 @@
 -- What holds where a machine refuses what comes from outside.
-use Rattle.std.proofs.Common.{◌≡◌, ◌≢◌, ◌⊎◌, ◌↔◌, inl, inr, Bool, true, false, Result, Err, sym, subst, ◌∙◌}
+use Rattle.std.proofs.Common.{◌≡◌, ◌≢◌, ◌⊎◌, ◌↔◌, inl, inr, Bool, true, false, Result, Ok, Err, sym, subst, ◌∙◌}
 use Rattle.std.specs.Prelude.{IfErr, IsTrue}
 use Rattle.guest_calls.specs.declared.outcomes.BootError.{BootError}
 use Rattle.guest_calls.specs.declared.outcomes.BootError.TheVariants as boot
@@ -63,6 +63,25 @@ module _ {T : Type 0} (r : Result T MachineError) (e : MachineError) (is_error :
 
   pub memory-unplug-only : IfErr r (λ x. (x ≡ machine_error.NotBooted) ⊎ ((x ≡ machine_error.NoDevice) ⊎ (x ≡ machine_error.NoMemory)))
   memory-unplug-only = subst (λ (s : Result T MachineError). IfErr s (λ x. (x ≡ machine_error.NotBooted) ⊎ ((x ≡ machine_error.NoDevice) ⊎ (x ≡ machine_error.NoMemory)))) (sym is_error) (inr (inr no_memory))
+
+  pub memory-no-device : (has was : Bool) → was ≡ false → (r ≡ Err machine_error.NoDevice) ↔ (IsTrue has × IsTrue was)
+  memory-no-device has was never = (λ is. absurd (memory-not machine_error.NoDevice (λ same. cc) is), λ why. absurd (not-both was why.1 never))
+
+  pub memory-booted : (has : Bool) → has ≡ false → (r ≡ Err machine_error.Booted) ↔ IsTrue has
+  memory-booted has never = (λ is. absurd (memory-not machine_error.Booted (λ same. cc) is), λ holds. absurd (not-both has holds never))
+
+  pub memory-name : r ≡ Err machine_error.NoName → ⊥
+  memory-name is = memory-not machine_error.NoName (λ same. cc) is
+
+  pub memory-image : r ≡ Err machine_error.NotImage → ⊥
+  memory-image is = memory-not machine_error.NotImage (λ same. cc) is
+
+-- what was done wasn't refused
+pub done-no-device : {T : Type 0} (r : Result T MachineError) (x : T) (has was : Bool) → r ≡ Ok x → was ≡ false → (r ≡ Err machine_error.NoDevice) ↔ (IsTrue has × IsTrue was)
+done-no-device {T} r x has was done never = (λ is. absurd (clash r x done is), λ why. absurd (not-both was why.1 never))
+  where
+    clash : (s : Result T MachineError) (x : T) → s ≡ Ok x → s ≡ Err machine_error.NoDevice → ⊥
+    clash s x was is = cc
 
 -- a device that is there, or not
 pub no-device-also : {T : Type 0} (r : Result T MachineError) (has filled was : Bool) → (r ≡ Err machine_error.NoDevice) ↔ (IsTrue has × IsTrue was) → filled ≡ true → (r ≡ Err machine_error.NoDevice) ↔ (IsTrue has × ((filled ≡ false) ⊎ IsTrue was))

@@ -9,7 +9,7 @@ use Rattle.guest_machine.specs.Recorded.{IsReal, Recorded}
 use Rattle.guest_machine.specs.Refusals.{as_machine_error}
 use Rattle.guest_machine.proofs.MachineLemmas.{boot-next, boot-real, named}
 use Rattle.guest_machine.proofs.Outside.{no-process, runs-boot, same-recorded}
-use Rattle.guest_machine.proofs.Refused.{boot-no-name, boot-not-booted, boot-not-image, boot-only}
+use Rattle.guest_machine.proofs.Refused.{boot-no-name, boot-not-booted, boot-not-image, boot-only, memory-booted, memory-image, memory-name}
 use Rattle.guest_machine.proofs.RunsLemmas.{on_err, spelled-push}
 use Rattle.guest_machine.proofs.Spelled.{few-spelled}
 use Rattle.guest_machine.proofs.machine.Machine.boot.Goals as goal
@@ -77,3 +77,39 @@ returns-in_err-give-clause-not_image c is =
 
 pub returns-clause-event : goal.returns-clause-event
 returns-clause-event c = c.events-event.ensures ∙ ap (λ (r : Recorded). r.kernel.events) c.self.view_is
+
+pub returns-in_err-reserve-clause-booted : goal.returns-in_err-reserve-clause-booted
+returns-in_err-reserve-clause-booted c =
+    let p = err_from_is_err_and c.from_residual.result c.from_residual.ensures.1 in
+    memory-booted c.from_residual.result p.0 p.1 p.2 _ (sym c.is_booted.ensures ∙ c.if-is_booted.false)
+
+pub returns-in_err-reserve-clause-unrecorded : goal.returns-in_err-reserve-clause-unrecorded
+returns-in_err-reserve-clause-unrecorded c = on_err _ _ c.from_residual.result _ c.in_err-reserve.ensures.items
+
+pub returns-in_err-reserve-clause-no_name : goal.returns-in_err-reserve-clause-no_name
+returns-in_err-reserve-clause-no_name c is =
+    let p = err_from_is_err_and c.from_residual.result c.from_residual.ensures.1 in
+    absurd (memory-name c.from_residual.result p.0 p.1 p.2 is)
+
+pub returns-in_err-reserve-clause-not_image : goal.returns-in_err-reserve-clause-not_image
+returns-in_err-reserve-clause-not_image c is =
+    let p = err_from_is_err_and c.from_residual.result c.from_residual.ensures.1 in
+    absurd (memory-image c.from_residual.result p.0 p.1 p.2 is)
+
+pub returns-in_err-held-clause-booted : goal.returns-in_err-held-clause-booted
+returns-in_err-held-clause-booted c =
+    let p = err_from_is_err_and c.from_residual-in_err-held.result c.from_residual-in_err-held.ensures.1 in
+    memory-booted c.from_residual-in_err-held.result p.0 p.1 p.2 _ (sym c.is_booted.ensures ∙ c.if-is_booted.false)
+
+pub returns-in_err-held-clause-unrecorded : goal.returns-in_err-held-clause-unrecorded
+returns-in_err-held-clause-unrecorded c = on_err _ _ c.from_residual-in_err-held.result _ c.in_ok-reserve.ensures.items
+
+pub returns-in_err-held-clause-no_name : goal.returns-in_err-held-clause-no_name
+returns-in_err-held-clause-no_name c is =
+    let p = err_from_is_err_and c.from_residual-in_err-held.result c.from_residual-in_err-held.ensures.1 in
+    absurd (memory-name c.from_residual-in_err-held.result p.0 p.1 p.2 is)
+
+pub returns-in_err-held-clause-not_image : goal.returns-in_err-held-clause-not_image
+returns-in_err-held-clause-not_image c is =
+    let p = err_from_is_err_and c.from_residual-in_err-held.result c.from_residual-in_err-held.ensures.1 in
+    absurd (memory-image c.from_residual-in_err-held.result p.0 p.1 p.2 is)

@@ -67,3 +67,21 @@ loop-end-preserved g c =
       counts = Counts-more c.args.self.now l.self n.self c.args.budget l.left l.spelled c.from-left.result c.in-Ok.taken.len l.invariant.counts few ran c.take_slice.ensures.events (e.some picked.possible picked.some);
       spelled = λ all. c.take_slice.ensures.spelled (l.invariant.spelled all);
     }
+
+pub returns-in-Some-clause-cut : goal.returns-in-Some-clause-cut
+returns-in-Some-clause-cut g c = tt
+
+pub returns-in-Some-clause-spelled : goal.returns-in-Some-clause-spelled
+returns-in-Some-clause-spelled g c = c.loop-end.invariant.spelled
+
+pub returns-in_default-take_slice-clause-leg : goal.returns-in_default-take_slice-clause-leg
+returns-in_default-take_slice-clause-leg g c = tt
+
+pub returns-in_default-take_slice-clause-count : goal.returns-in_default-take_slice-clause-count
+returns-in_default-take_slice-clause-count g c = tt
+
+pub returns-in_default-take_slice-clause-within : goal.returns-in_default-take_slice-clause-within
+returns-in_default-take_slice-clause-within g c = tt
+
+pub returns-in_default-take_slice-clause-spelled : goal.returns-in_default-take_slice-clause-spelled
+returns-in_default-take_slice-clause-spelled g c all = c.take_slice.ensures.spelled (c.loop-end.invariant.spelled all)

@@ -6,9 +6,9 @@ use Rattle.arn_model.specs.Run.{unplug_step}
 use Rattle.arn_model.specs.TransferCalls.{was_unplugged}
 use Rattle.guest_machine.specs.Recorded.{IsReal, Recorded}
 use Rattle.guest_machine.proofs.MachineLemmas.{becomes-next, becomes-real, is-added}
-use Rattle.guest_machine.proofs.Outside.{runs-unplug}
-use Rattle.guest_machine.proofs.Refused.{memory-not-booted, memory-unplug-only}
-use Rattle.guest_machine.proofs.RunsLemmas.{spelled-push}
+use Rattle.guest_machine.proofs.Outside.{runs-unplug, same-recorded}
+use Rattle.guest_machine.proofs.Refused.{done-no-device, memory-no-device, memory-not-booted, memory-unplug-only}
+use Rattle.guest_machine.proofs.RunsLemmas.{on_err, spelled-push}
 use Rattle.guest_machine.proofs.machine.Machine.unplug_number.Goals as goal
 
 -- the kernel adds the number
@@ -60,3 +60,28 @@ pub returns-in_err-reserve-clause-only : goal.returns-in_err-reserve-clause-only
 returns-in_err-reserve-clause-only c =
     let p = err_from_is_err_and c.from_residual.result c.from_residual.ensures.1 in
     memory-unplug-only c.from_residual.result p.0 p.1 p.2
+
+pub returns-in_err-unplug-clause-no_device : goal.returns-in_err-unplug-clause-no_device
+returns-in_err-unplug-clause-no_device c =
+    let p = err_from_is_err_and c.from_residual-in_err-unplug.result c.from_residual-in_err-unplug.ensures.1 in
+    memory-no-device c.from_residual-in_err-unplug.result p.0 p.1 p.2 _ _ (ap (λ (r : Recorded). was_unplugged r.kernel.kernel c.args.device) (sym c.self.view_is) ∙ sym c.was_unplugged.ensures ∙ c.if-was_unplugged.false)
+
+pub returns-in_err-reserve-clause-no_device : goal.returns-in_err-reserve-clause-no_device
+returns-in_err-reserve-clause-no_device c =
+    let p = err_from_is_err_and c.from_residual.result c.from_residual.ensures.1 in
+    memory-no-device c.from_residual.result p.0 p.1 p.2 _ _ (ap (λ (r : Recorded). was_unplugged r.kernel.kernel c.args.device) (sym c.self.view_is) ∙ sym c.was_unplugged.ensures ∙ c.if-was_unplugged.false)
+
+pub returns-in_err-unplug-clause-err : goal.returns-in_err-unplug-clause-err
+returns-in_err-unplug-clause-err c = on_err _ _ c.from_residual-in_err-unplug.result _ (same-recorded c.self.inside.kernel c.unplug.new.self c.self.inside.instructions c.args.self.now c.self.view_is c.in_err-unplug.ensures.err)
+
+pub returns-in_err-unplug-clause-unrecorded : goal.returns-in_err-unplug-clause-unrecorded
+returns-in_err-unplug-clause-unrecorded c = on_err _ _ c.from_residual-in_err-unplug.result _ c.in_ok-reserve.ensures.items
+
+pub returns-in_err-reserve-clause-unrecorded : goal.returns-in_err-reserve-clause-unrecorded
+returns-in_err-reserve-clause-unrecorded c = on_err _ _ c.from_residual.result _ c.in_err-reserve.ensures.items
+
+pub returns-clause-no_device : goal.returns-clause-no_device
+returns-clause-no_device c = done-no-device _ _ _ _ refl (ap (λ (r : Recorded). was_unplugged r.kernel.kernel c.args.device) (sym c.self.view_is) ∙ sym c.was_unplugged.ensures ∙ c.if-was_unplugged.false)
+
+pub returns-clause-event : goal.returns-clause-event
+returns-clause-event c = c.events-event.ensures ∙ ap (λ (r : Recorded). r.kernel.events) c.self.view_is
