@@ -2,6 +2,7 @@ pub mod Bodies
 pub mod Views
 pub mod Acts
 pub mod Told
+pub mod Deeds
 pub mod Transfers
 pub mod Moved
 pub mod Records

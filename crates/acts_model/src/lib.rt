@@ -5,8 +5,10 @@
 //! that both are changed by one text.
 #![tactic(auto)]
 
+mod deeds;
 mod observer;
 mod told;
 
+pub use deeds::{Deed, argument, call_deed, call_number, deed_of};
 pub use observer::Observer;
 pub use told::{event_len, is_success, process_of};

@@ -1,9 +1,11 @@
 -- When a record's act can be done, and what is wrong where it can't.
-use Rattle.std.specs.Prelude.{◌≡◌, ◌<◌, ◌^◌, ℕ, Bool, true, false, Option, Some, None, IsNone}
+use Rattle.std.specs.Prelude.{◌≡◌, ◌<◌, ◌≤◌, ◌^◌, ℕ, Bool, true, false, IsTrue, List, Option, Some, None, IsNone}
 use Rattle.arn_base.specs.declared.records.Record.{Record}
 use Rattle.arn_base.specs.declared.records.Record.TheVariants as entry
 use Rattle.parts_model.specs.Numbered.{nth}
-use Rattle.acts_model.specs.Acts.{Act, Forks}
+use Rattle.parts_model.specs.declared.limits.TheConstants.{MOST_BLOCK_BYTES}
+use Rattle.parts_model.specs.Image.{is_image}
+use Rattle.acts_model.specs.Acts.{Act, Forks, Starts}
 use Rattle.acts_model.specs.Bodies.{View}
 use Rattle.acts_model.specs.Disagreement.{Wrong}
 use Rattle.guest_bodies.specs.Shown.{Guests, seen_in}
@@ -27,6 +29,16 @@ ChildIsFree guests other = Unit {0}
 abbrev pub ChildFits : Act → Type 0
 ChildFits (Forks child) = child < 2 ^ 32
 ChildFits other = Unit {0}
+
+-- a process can start from a file with an argument block of so many bytes
+pub record StartsFrom (file : List ℕ) (block_len : ℕ) : Type 0 where
+  pub image : IsTrue (is_image file)
+  pub few : block_len ≤ MOST_BLOCK_BYTES
+
+-- the start of an act can be made
+abbrev pub CanStart : Act → Type 0
+CanStart (Starts file block block_len) = StartsFrom file block_len
+CanStart other = Unit {0}
 
 -- the child that joins its parent's group
 abbrev pub child_joined : Act → Option ℕ

@@ -1,5 +1,4 @@
 pub mod Notices
 pub mod Standing
 pub mod Calls
-pub mod Kinds
 pub mod Plain

@@ -4,24 +4,22 @@ ghost use Rattle.arn_base.specs.declared.machine.Cpu.{Cpu};
 ghost use Rattle.acts_model.specs.Acts.{Act, done};
 ghost use Rattle.acts_model.specs.Disagreement.{wrong_with};
 ghost use Rattle.acts_model.specs.Moved.{is_call_or_end};
-ghost use Rattle.acts_model.specs.Told.{act_of, fork_act};
+ghost use Rattle.acts_model.specs.Told.{act_of};
 ghost use Rattle.acts_model.specs.Views.{stands_at};
 ghost use Rattle.guest_bodies.specs.Follows.{Follows};
 ghost use Rattle.guest_bodies.specs.Shown.{IsFresh, IsLive};
 ghost use Rattle.history_model.specs.Alone as alone;
 ghost use Rattle.history_model.specs.Alone.{Own};
-ghost use Rattle.replay_steps.specs.Calls.{ChildFits, ChildIsFree, OfSeen, child_joined, if_ticked, is_own, wrong_as};
+ghost use Rattle.replay_steps.specs.Calls.{ChildIsFree, OfSeen, child_joined, if_ticked, is_own, wrong_as};
 ghost use Rattle.replay_steps.specs.Notices.{Listener};
 ghost use Rattle.replay_steps.specs.Standing.{Explains, GainsOnly, IsStanding, Reaches, Stands};
 
-use crate::calls::call;
-use crate::kinds::kind_of;
+use crate::deeds::{do_deed, joining_child};
 use crate::wrong::{Finding, call_wrong, end_wrong};
 use crate::{Disagrees, ReplayError};
-use acts_model::{Observer, is_success};
-use arn_base::{Extra, NoMemory, Record, Steps};
+use acts_model::{Observer, deed_of};
+use arn_base::{NoMemory, Record, Steps};
 use guest_bodies::{Bodies, others_stay_unheld};
-use parts_model::calls::FORK;
 use std::sync::ledger::Ledger;
 
 // What is wrong with a record. The instruction of a call or of an end by fault is counted.
@@ -53,8 +51,8 @@ fn wrong<L: Ledger>(
     }
 }
 
-// Does what a record tells.
-fn act(bodies: &mut Bodies, pid: u32, event: u64, entry: &Record) -> Result<(), NoMemory>
+// Does what a record tells. The result is the child that joins the group.
+fn act(bodies: &mut Bodies, pid: u32, event: u64, entry: &Record) -> Result<Option<u32>, NoMemory>
     requires own { IsTrue (is_own entry.now) }
     requires live { IsLive bodies.old pid }
     requires fresh { IsFresh bodies.old event }
@@ -64,52 +62,16 @@ fn act(bodies: &mut Bodies, pid: u32, event: u64, entry: &Record) -> Result<(), 
         wrong_with v (stands_at v) entry.now ≡ None) }
     ensures done { OfSeen bodies.old pid (λ v. IfSome (act_of v.body.cpu entry.now) (λ act.
         OnOk result (Follows bodies.old (done pid event act) bodies.new))) }
+    ensures child { (cpu : Cpu) → IfOk result (λ child.
+        child ≡ option_and_then child_joined (act_of cpu entry.now)) }
     ensures lives { (cpu : Cpu) → OnOk result (GainsOnly
         (option_and_then child_joined (act_of cpu entry.now)) bodies.old bodies.new) }
 {
-    match entry {
-        Record::Signal {
-            signal,
-            cut,
-            handler,
-            ..
-        } if *handler != 0 => bodies.delivers(pid, *signal, *handler, *cut),
-        Record::Call {
-            number,
-            result,
-            extra,
-            ..
-        } => return call(bodies, pid, event, kind_of(*number), *result, extra),
-        _ => bodies.ends(pid),
-    }
-    Ok(())
-}
-
-// The child of a fork that joins its parent's group.
-fn joined_child(answer: u64, extra: &Extra) -> Option<u32>
-    requires { ChildFits (fork_act answer extra.now) }
-    ensures { result ≡ child_joined (fork_act answer extra.now) }
-{
-    if is_success(answer) && !matches!(extra, Extra::Start(_)) {
-        return Some(answer as u32);
-    }
-    None
-}
-
-// The same, as an event's record tells it.
-fn joined(entry: &Record) -> Option<u32>
-    requires { (cpu : Cpu) → IfSome (act_of cpu entry.now) ChildFits }
-    ensures { (cpu : Cpu) → result ≡ option_and_then child_joined (act_of cpu entry.now) }
-{
-    match entry {
-        Record::Call {
-            number,
-            result,
-            extra,
-            ..
-        } if *number == FORK => joined_child(*result, extra),
-        _ => None,
-    }
+    let Some(deed) = deed_of(bodies.cpu(pid), entry) else {
+        return Ok(None);
+    };
+    do_deed(bodies, pid, event, &deed)?;
+    Ok(joining_child(&deed))
 }
 
 fn tell<O: Observer>(
@@ -156,8 +118,7 @@ pub fn happen<O: Observer, L: Ledger>(
         return Err(ReplayError::Disagrees(finding.at(event)));
     }
     tell(bodies, pid, event, entry, observer)?;
-    act(bodies, pid, event, entry)?;
-    if let Some(child) = joined(entry) {
+    if let Some(child) = act(bodies, pid, event, entry)? {
         observer.begin(child, event, Some(pid))?;
     }
     Ok(())

@@ -3,10 +3,9 @@
 #![tactic(auto)]
 
 mod beginning;
-mod calls;
+mod deeds;
 mod errors;
 mod happening;
-mod kinds;
 mod plain;
 mod turn;
 mod wrong;

@@ -1,24 +1,20 @@
 // Where a record can't be what a process did.
-ghost use Rattle.std.specs.Prelude.{◌≡◌, ◌<◌, ℕ, IfOk, length, option_map};
-ghost use Rattle.acts_model.specs.Disagreement as disagreement;
-ghost use Rattle.acts_model.specs.Told as told;
-ghost use Rattle.acts_model.specs.Told.{call_act, exec_act, read_act, wait_act, write_act, is_pipe_write as is_pipe_write_of};
-ghost use Rattle.arn_base.specs.declared.records.Extra.{Extra};
-ghost use Rattle.acts_model.specs.Views.{argument as argument_of, call_number as call_number_of, bytes_in};
+ghost use Rattle.std.specs.Prelude.{◌≡◌, ℕ, IfOk, option_map};
 ghost use Rattle.acts_model.specs.Acts.{Starts};
+ghost use Rattle.acts_model.specs.Deeds.{deed_as};
+ghost use Rattle.acts_model.specs.Disagreement as disagreement;
 ghost use Rattle.arn_base.specs.declared.records.Extra.TheVariants as extra;
 ghost use Rattle.guest_bodies.specs.Shown.{IsLive};
 ghost use Rattle.rv64_core.specs.Prospect.{Foretells};
 ghost use Rattle.rv64_model.specs.Instruction.{Effect};
 ghost use Rattle.replay_steps.specs.Calls.{OfSeen, wrong_as};
-ghost use Rattle.replay_steps.specs.Kinds.{kind_as};
 
 use crate::Disagrees;
-use crate::kinds::{CallKind, kind_of};
+use acts_model::{Deed, call_deed, call_number};
 use arn_base::{Bytes, Cpu, Extra, NoMemory};
 use guest_bodies::Bodies;
 use guest_image::parse;
-use parts_model::limits::{MOST_BLOCK_BYTES, MOST_TRANSFER};
+use parts_model::limits::MOST_BLOCK_BYTES;
 use parts_model::refusals::BAD_ARGUMENT;
 use rv64_core::Prospect;
 
@@ -52,21 +48,6 @@ fn found_if(test: bool, said: u64, found: u64) -> Option<Finding>
     ensures { option_map wrong_as result ≡ disagreement.wrong_if test said found }
 {
     test.then_some(Finding { said, found })
-}
-
-/// The number of the call at which a process stands.
-pub fn call_number(cpu: &Cpu) -> u64
-    ensures { result ≡ call_number_of cpu.now }
-{
-    cpu.x[16]
-}
-
-/// The argument of a call at a place from 0.
-pub fn argument(cpu: &Cpu, place: usize) -> u64
-    requires { place < 7 }
-    ensures { result ≡ argument_of cpu.now place }
-{
-    cpu.x[9 + place]
 }
 
 fn isnt_call(prospect: Prospect, number: u64) -> Option<Finding>
@@ -129,18 +110,26 @@ fn unreached(bodies: &Bodies, pid: u32, at: u64, len: u64, said: u64) -> Option<
     found_if(is_outside(bodies, pid, at, len), said, 0)
 }
 
+// What a write gave isn't what stands there. A write to a pipe holds no bytes.
 fn given_wrong(
     bodies: &Bodies,
     pid: u32,
     at: u64,
-    bytes: &[u8],
+    len: u64,
+    answer: u64,
+    extra: &Extra,
 ) -> Result<Option<Finding>, NoMemory>
     requires live { IsLive bodies.now pid }
-    ensures { IfOk result (λ wrong. OfSeen bodies.now pid (λ v. option_map wrong_as wrong ≡
-        disagreement.differ_from bytes.now (bytes_in v at (length bytes.now)))) }
+    ensures { IfOk result (λ wrong. OfSeen bodies.now pid (λ v.
+        option_map wrong_as wrong ≡ disagreement.given_wrong v at len answer extra.now)) }
 {
-    let found = bodies.copy(pid, at, bytes.len() as u64)?;
-    Ok(differ_from(bytes, &found))
+    match extra {
+        Extra::Put { bytes, .. } | Extra::Console { bytes } | Extra::Sent { bytes, .. } => {
+            let found = bodies.copy(pid, at, len)?;
+            Ok(differ_from(bytes.as_slice(), &found))
+        }
+        _ => Ok(unreached(bodies, pid, at, len, answer)),
+    }
 }
 
 fn isnt_block(bodies: &Bodies, pid: u32, at: u64, len: u64) -> bool
@@ -151,8 +140,8 @@ fn isnt_block(bodies: &Bodies, pid: u32, at: u64, len: u64) -> bool
     len > MOST_BLOCK_BYTES || is_outside(bodies, pid, at, len)
 }
 
-/// What is wrong with an image file, or else with its argument block.
-pub fn start_wrong(bodies: &Bodies, pid: u32, file: &[u8], at: u64, len: u64) -> Option<Finding>
+// What is wrong with an image file, or else with its argument block.
+fn start_wrong(bodies: &Bodies, pid: u32, file: &[u8], at: u64, len: u64) -> Option<Finding>
     requires live { IsLive bodies.now pid }
     ensures { OfSeen bodies.now pid (λ v. option_map wrong_as result ≡
         disagreement.act_wrong v (Starts file.now at len) extra.Nothing) }
@@ -166,101 +155,37 @@ pub fn start_wrong(bodies: &Bodies, pid: u32, file: &[u8], at: u64, len: u64) ->
     found_if(isnt_block(bodies, pid, at, len), len, 0)
 }
 
-fn exec_wrong(bodies: &Bodies, pid: u32, extra: &Extra) -> Option<Finding>
-    requires live { IsLive bodies.now pid }
-    ensures { (answer : ℕ) → OfSeen bodies.now pid (λ v. option_map wrong_as result ≡
-        disagreement.act_wrong v (exec_act v.body.cpu answer extra.now) extra.now) }
-{
-    let Extra::Give(give) = extra else {
-        return None;
-    };
-    let cpu = bodies.cpu(pid);
-    let (at, len) = (argument(cpu, 2), argument(cpu, 3));
-    start_wrong(bodies, pid, give.bytes.as_slice(), at, len)
-}
-
-fn wait_wrong(bodies: &Bodies, pid: u32, extra: &Extra) -> Option<Finding>
-    requires live { IsLive bodies.now pid }
-    ensures { (answer : ℕ) → OfSeen bodies.now pid (λ v. option_map wrong_as result ≡
-        disagreement.act_wrong v (wait_act v.body.cpu answer extra.now) extra.now) }
-{
-    let Extra::Give(give) = extra else {
-        return None;
-    };
-    let len = give.bytes.len() as u64;
-    unreached(bodies, pid, argument(bodies.cpu(pid), 0), len, len)
-}
-
-fn read_wrong(bodies: &Bodies, pid: u32, extra: &Extra) -> Option<Finding>
-    requires live { IsLive bodies.now pid }
-    ensures { (answer : ℕ) → OfSeen bodies.now pid (λ v. option_map wrong_as result ≡
-        disagreement.act_wrong v (read_act v.body.cpu answer extra.now) extra.now) }
-{
-    let len = match extra {
-        Extra::Give(give) => give.bytes.len() as u64,
-        Extra::Reply { bytes, .. } => bytes.len() as u64,
-        _ => return None,
-    };
-    unreached(bodies, pid, argument(bodies.cpu(pid), 1), len, len)
-}
-
-fn is_pipe_write(answer: u64) -> bool
-    ensures { result ≡ is_pipe_write_of answer }
-{
-    answer >= 1 && answer <= MOST_TRANSFER
-}
-
-fn write_wrong(
+// What a deed can't do.
+fn deed_wrong(
     bodies: &Bodies,
     pid: u32,
-    answer: u64,
+    deed: &Deed<'_>,
     extra: &Extra,
 ) -> Result<Option<Finding>, NoMemory>
     requires live { IsLive bodies.now pid }
-    ensures { IfOk result (λ wrong. OfSeen bodies.now pid (λ v. option_map wrong_as wrong ≡
-        disagreement.act_wrong v (write_act v.body.cpu answer extra.now) extra.now)) }
+    ensures { IfOk result (λ wrong. OfSeen bodies.now pid (λ v.
+        option_map wrong_as wrong ≡ disagreement.act_wrong v (deed_as deed.now) extra.now)) }
 {
-    let at = argument(bodies.cpu(pid), 1);
-    match extra {
-        Extra::Put { bytes, .. } | Extra::Console { bytes } | Extra::Sent { bytes, .. } => {
-            given_wrong(bodies, pid, at, bytes.as_slice())
+    Ok(match *deed {
+        Deed::Receives { at, bytes, .. } => {
+            let len = bytes.len() as u64;
+            unreached(bodies, pid, at, len, len)
         }
-        Extra::Nothing if is_pipe_write(answer) => {
-            Ok(unreached(bodies, pid, at, answer, answer))
-        }
-        _ => Ok(None),
-    }
-}
-
-fn leave_wrong(bodies: &Bodies, pid: u32, answer: u64) -> Option<Finding>
-    requires live { IsLive bodies.now pid }
-    ensures { (extra : Extra) → OfSeen bodies.now pid (λ v. option_map wrong_as result ≡
-        disagreement.act_wrong v (call_act told.Sigreturn v.body.cpu answer extra) extra) }
-{
-    let lacks_slot = answer == 0 && !bodies.is_in_handler(pid);
-    found_if(lacks_slot, 0, BAD_ARGUMENT.wrapping_neg())
-}
-
-// What the act of a call can't do.
-fn act_wrong(
-    bodies: &Bodies,
-    pid: u32,
-    kind: CallKind,
-    answer: u64,
-    extra: &Extra,
-) -> Result<Option<Finding>, NoMemory>
-    requires live { IsLive bodies.now pid }
-    ensures { IfOk result (λ wrong. OfSeen bodies.now pid (λ v. option_map wrong_as wrong ≡
-        disagreement.act_wrong v (call_act (kind_as kind) v.body.cpu answer extra.now)
-        extra.now)) }
-{
-    Ok(match kind {
-        CallKind::Exec => exec_wrong(bodies, pid, extra),
-        CallKind::Wait => wait_wrong(bodies, pid, extra),
-        CallKind::Sigreturn => leave_wrong(bodies, pid, answer),
-        CallKind::Read => read_wrong(bodies, pid, extra),
-        CallKind::Write => write_wrong(bodies, pid, answer, extra)?,
-        CallKind::Exit | CallKind::Fork | CallKind::Shm | CallKind::Other => None,
+        Deed::Gives { at, len, result } => given_wrong(bodies, pid, at, len, result, extra)?,
+        Deed::Starts {
+            file,
+            block,
+            block_len,
+        } => start_wrong(bodies, pid, file, block, block_len),
+        Deed::Leaves => found_if(!bodies.is_in_handler(pid), 0, BAD_ARGUMENT.wrapping_neg()),
+        Deed::Returns { .. }
+        | Deed::Forks { .. }
+        | Deed::Founds { .. }
+        | Deed::Shares
+        | Deed::Delivers { .. }
+        | Deed::Exits
+        | Deed::Faults { .. }
+        | Deed::Dies { .. } => None,
     })
 }
 
@@ -285,7 +210,8 @@ pub fn call_wrong(
     if let Some(finding) = is_other_call(bodies.cpu(pid), number) {
         return Ok(Some(finding));
     }
-    act_wrong(bodies, pid, kind_of(number), answer, extra)
+    let deed = call_deed(bodies.cpu(pid), number, answer, extra);
+    deed_wrong(bodies, pid, &deed, extra)
 }
 
 /// What is wrong with the status of an end by fault.
