@@ -1,16 +1,18 @@
 // Events of a group.
 ghost use Rattle.std.specs.Prelude.{◌≡◌, IfOk, OnOk, is_some};
 ghost use Rattle.parts_model.specs.Numbered.{nth};
-ghost use Rattle.taint_state.specs.declared.deeds.Deed.TheVariants as did;
+ghost use Rattle.acts_model.specs.Acts.{Forks};
+ghost use Rattle.acts_model.specs.Deeds.{deed_as};
 ghost use Rattle.taint_group.specs.Does.{DoesStep};
 ghost use Rattle.taint_state.specs.Goes.{TakesEvent};
 ghost use Rattle.taint_group.specs.Groups.{IsSoundGroup, kept_of};
 ghost use Rattle.taint_state.specs.Kept.{shown};
+ghost use Rattle.taint_state.specs.Lens.{HasLen};
 
 use crate::group::Group;
-use acts_model::{event_len, process_of};
+use acts_model::{Deed, deed_of, event_len, process_of};
 use arn_base::{Cpu, NoMemory, Record};
-use taint_state::{Deed, acts_have_len, deed_of};
+use taint_state::{Layout, acts_have_len};
 
 /// The number of a process. 2^32 or more count as want of memory.
 fn narrow_pid(number: u64) -> Result<u32, NoMemory>
@@ -35,31 +37,36 @@ impl Group {
     /// as want of memory.
     fn joins(&mut self, pid: u32, child: u64, event: u64, len: usize) -> Result<(), NoMemory>
         requires sound { IsSoundGroup self.old }
-        ensures { OnOk result
-            (DoesStep (did.Forks child) pid event len self.old self.new) }
+        ensures { OnOk result (DoesStep (Forks child) pid event len self.old self.new) }
     {
         let child = narrow_pid(child)?;
         self.forks(pid, child, event, len)
     }
 
     /// A live member does this at an event of so many bytes.
-    fn step(&mut self, pid: u32, event: u64, deed: Deed, len: usize) -> Result<(), NoMemory>
+    fn step(&mut self, pid: u32, event: u64, deed: &Deed<'_>, len: usize) -> Result<(), NoMemory>
         requires sound { IsSoundGroup self.old }
-        ensures { OnOk result (DoesStep deed pid event len self.old self.new) }
+        requires len { HasLen len (deed_as deed.now) }
+        ensures { OnOk result
+            (DoesStep (deed_as deed.now) pid event len self.old self.new) }
     {
-        match deed {
-            Deed::Returns => self.returns(pid, event, len),
-            Deed::Receives { at } => self.receives(pid, event, at, len),
-            Deed::Gives { at } => self.gives(pid, event, at, len),
-            Deed::Starts(layout) => self.starts(pid, event, len, layout),
+        match *deed {
+            Deed::Returns { .. } => self.returns(pid, event, len),
+            Deed::Receives { at, .. } => self.receives(pid, event, at, len),
+            Deed::Gives { at, .. } => self.gives(pid, event, at, len),
+            Deed::Starts {
+                file,
+                block,
+                block_len,
+            } => self.starts(pid, event, len, Layout::new(file, block, block_len)),
             Deed::Forks { child } => self.joins(pid, child, event, len),
-            Deed::Founds => self.founds(pid, event, len),
+            Deed::Founds { .. } => self.founds(pid, event, len),
             Deed::Shares => self.shares(pid, event, len),
             Deed::Leaves => self.leaves(pid, event, len),
-            Deed::Delivers { cut } => self.delivers(pid, cut, event, len),
+            Deed::Delivers { cut, .. } => self.delivers(pid, cut, event, len),
             Deed::Exits => self.exits(pid, event, len),
-            Deed::Faults => self.faults(pid, event, len),
-            Deed::Dies => self.dies(pid, event, len),
+            Deed::Faults { .. } => self.faults(pid, event, len),
+            Deed::Dies { .. } => self.dies(pid, event, len),
         }
     }
 
@@ -93,6 +100,6 @@ impl Group {
         if !self.is_live(pid) {
             return Ok(());
         }
-        self.step(pid, event, deed, event_len(entry) as usize)
+        self.step(pid, event, &deed, event_len(entry) as usize)
     }
 }

@@ -10,4 +10,3 @@ pub mod Events
 pub mod EventsShow
 pub mod Lens
 pub mod Heard
-pub mod Deeds

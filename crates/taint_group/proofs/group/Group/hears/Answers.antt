@@ -1,19 +1,20 @@
-use Rattle.std.proofs.Common.{◌∙◌, sym}
+use Rattle.std.proofs.Common.{◌∙◌, ap, option_map, sym}
+use Rattle.acts_model.specs.Deeds.{deed_as}
 use Rattle.taint_group.proofs.Groups.{ok-map}
-use Rattle.taint_group.proofs.Happening.{takes-dead, takes-deed, takes-nobody, takes-untold}
+use Rattle.taint_group.proofs.Happening.{has-len, takes-act, takes-dead, takes-nobody, takes-untold}
 use Rattle.taint_group.proofs.group.Group.hears.Goals as goal
 
 pub returns-clause-takes : goal.returns-clause-takes
 returns-clause-takes c =
     ok-map c.step.result (λ step.
-    (takes-deed c.in-Some-deed_of.deed c.in-Some.pid c.args.event c.event_len.result c.args.entry.now c.args.before.now c.args.self.now c.step.new.self c.acts_have_len.ensures
-    (sym c.process_of.ensures ∙ c.in-Some.is) (sym c.in-Some-deed_of.is ∙ c.deed_of.ensures) (sym c.is_live.ensures ∙ c.if-not-is_live.false) c.event_len.ensures step).0) c.step.ensures
+    (takes-act (deed_as c.in-Some-deed_of.deed) c.in-Some.pid c.args.event c.event_len.result c.args.entry.now c.args.before.now c.args.self.now c.step.new.self
+    (sym c.process_of.ensures ∙ c.in-Some.is) (sym c.deed_of.ensures ∙ ap (option_map deed_as) c.in-Some-deed_of.is) (sym c.is_live.ensures ∙ c.if-not-is_live.false) c.event_len.ensures step).0) c.step.ensures
 
 pub returns-clause-sound : goal.returns-clause-sound
 returns-clause-sound c =
     ok-map c.step.result (λ step.
-    (takes-deed c.in-Some-deed_of.deed c.in-Some.pid c.args.event c.event_len.result c.args.entry.now c.args.before.now c.args.self.now c.step.new.self c.acts_have_len.ensures
-    (sym c.process_of.ensures ∙ c.in-Some.is) (sym c.in-Some-deed_of.is ∙ c.deed_of.ensures) (sym c.is_live.ensures ∙ c.if-not-is_live.false) c.event_len.ensures step).1) c.step.ensures
+    (takes-act (deed_as c.in-Some-deed_of.deed) c.in-Some.pid c.args.event c.event_len.result c.args.entry.now c.args.before.now c.args.self.now c.step.new.self
+    (sym c.process_of.ensures ∙ c.in-Some.is) (sym c.deed_of.ensures ∙ ap (option_map deed_as) c.in-Some-deed_of.is) (sym c.is_live.ensures ∙ c.if-not-is_live.false) c.event_len.ensures step).1) c.step.ensures
 
 pub returns-in_default-clause-takes : goal.returns-in_default-clause-takes
 returns-in_default-clause-takes c = takes-nobody c.args.event c.args.entry.now c.args.before.now c.args.self.now (sym c.process_of.ensures ∙ c.in_default.is)
@@ -22,7 +23,7 @@ pub returns-in_default-clause-sound : goal.returns-in_default-clause-sound
 returns-in_default-clause-sound c = c.requires.sound
 
 pub returns-in_default-deed_of-clause-takes : goal.returns-in_default-deed_of-clause-takes
-returns-in_default-deed_of-clause-takes c = takes-untold c.in-Some.pid c.args.event c.args.entry.now c.args.before.now c.args.self.now (sym c.process_of.ensures ∙ c.in-Some.is) (sym c.deed_of.ensures ∙ c.in_default-deed_of.is)
+returns-in_default-deed_of-clause-takes c = takes-untold c.in-Some.pid c.args.event c.args.entry.now c.args.before.now c.args.self.now (sym c.process_of.ensures ∙ c.in-Some.is) (sym c.deed_of.ensures ∙ ap (option_map deed_as) c.in_default-deed_of.is)
 
 pub returns-in_default-deed_of-clause-sound : goal.returns-in_default-deed_of-clause-sound
 returns-in_default-deed_of-clause-sound c = c.requires.sound
@@ -34,4 +35,8 @@ pub returns-then-not-is_live-clause-sound : goal.returns-then-not-is_live-clause
 returns-then-not-is_live-clause-sound c = c.requires.sound
 
 pub step-requires : goal.step-requires
-step-requires c = record { sound = c.requires.sound }
+step-requires c =
+    record {
+      sound = c.requires.sound;
+      len = has-len (deed_as c.in-Some-deed_of.deed) c.event_len.result c.args.entry.now c.args.before.now c.acts_have_len.ensures (sym c.deed_of.ensures ∙ ap (option_map deed_as) c.in-Some-deed_of.is) c.event_len.ensures;
+    }

@@ -1,6 +1,6 @@
 use Rattle.std.proofs.Common.{◌≡◌, ℕ, zero, suc, ◌+◌, ◌*◌, List, [], ◌∷◌, take, drop, slice_index, refl, arith}
 use Rattle.arn_base.specs.Window.{number_of}
-use Rattle.taint_state.proofs.deeds.load_of.Goals as goal
+use Rattle.taint_state.proofs.layout.load_of.Goals as goal
 
 -- bytes behind the end of a list count for nothing
 none : (n k : ℕ) → number_of (take n (drop k [])) ≡ 0
