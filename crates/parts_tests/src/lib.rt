@@ -4,6 +4,8 @@
 #[cfg(test)]
 mod devices;
 #[cfg(test)]
+mod elf_files;
+#[cfg(test)]
 mod errors;
 #[cfg(test)]
 mod files;
