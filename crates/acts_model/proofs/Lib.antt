@@ -1,3 +1,4 @@
 pub mod ToldExamples
 pub mod ActsExamples
 pub mod TransfersExamples
+pub mod ChildExamples

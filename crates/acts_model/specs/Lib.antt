@@ -7,3 +7,4 @@ pub mod Transfers
 pub mod Moved
 pub mod Records
 pub mod Disagreement
+pub mod Seen

@@ -1,10 +1,11 @@
 -- What one record tells by itself: whose event it is, how long, and what it changes.
-use Rattle.std.specs.Prelude.{ℕ, ◌==◌, nat_le, ◌&&◌, Bool, true, false, if◌then◌else◌, List, length, Option, Some, None, unwrap_or}
+use Rattle.std.specs.Prelude.{ℕ, ◌==◌, nat_le, ◌&&◌, Bool, true, false, if◌then◌else◌, List, length, Option, Some, None, is_some, option_map, option_and_then, unwrap_or}
 use Rattle.arn_base.specs.declared.records.Extra.{Extra}
 use Rattle.arn_base.specs.declared.records.Extra.TheVariants as extra
 use Rattle.arn_base.specs.declared.records.Give.{Give}
 use Rattle.arn_base.specs.declared.records.Record.{Record}
 use Rattle.arn_base.specs.declared.records.Record.TheVariants as entry
+use Rattle.arn_base.specs.declared.records.Start.{Start}
 use Rattle.parts_model.specs.declared.calls.TheConstants.{EXIT, FORK, OPEN, WRITE, UNLINK}
 use Rattle.parts_model.specs.declared.limits.TheConstants.{MOST_TRANSFER}
 use Rattle.parts_model.specs.Replies.{is_success}
@@ -62,15 +63,57 @@ event_len (entry.Signal pid signal cut handler) = if handler == 0 then 1 else 0
 event_len (entry.Call pid number result more) = unwrap_or (held_len more) (plain_len number result more)
 event_len (entry.End pid status) = 1
 
+-- what a record tells of a child: its number, and how it begins where it starts a group. Else it joins its maker's group
+pub record Child : Type 0 where
+  pub number : ℕ
+  pub start : Option Start
+
+-- how a child begins, if what a call did holds it
+abbrev pub start_held : Extra → Option Start
+start_held (extra.Start start) = Some start
+start_held more = None
+
+abbrev pub child_forked : ℕ → Extra → Child
+child_forked result more = record { number = result; start = start_held more }
+
+-- a fork that succeeds makes a child
+abbrev pub child_called : ℕ → ℕ → Extra → Option Child
+child_called number result more = if (number == FORK) && is_success result then Some (child_forked result more) else None
+
+-- the child that a record tells of, if it makes one
+abbrev pub child_told : Record → Option Child
+child_told (entry.Call pid number result more) = child_called number result more
+child_told other = None
+
+-- its number
+abbrev pub child_number : Option Child → Option ℕ
+child_number child = option_map (λ c. c.number) child
+
+-- how it begins, if it starts a group
+abbrev pub child_start : Option Child → Option Start
+child_start child = option_and_then (λ c. c.start) child
+
+-- whether it starts a group
+abbrev pub is_founder : Child → Bool
+is_founder child = is_some child.start
+
+-- its number, if it starts a group
+abbrev pub child_founded : Option Child → Option ℕ
+child_founded child = option_and_then (λ c. if is_founder c then Some c.number else None) child
+
 -- a process begins, or it ends
 pub data LifeChange : Type 0 where
   BeginsLife : (pid : ℕ) → LifeChange
   EndsLife : (pid : ℕ) → LifeChange
   NoLife : LifeChange
 
-abbrev pub call_life : ℕ → ℕ → ℕ → LifeChange
-call_life pid number result =
-    if number == EXIT then EndsLife pid else if (number == FORK) && is_success result then BeginsLife result else NoLife
+-- a child begins, if there is one
+abbrev pub child_life : Option Child → LifeChange
+child_life None = NoLife
+child_life (Some child) = BeginsLife child.number
+
+abbrev pub call_life : ℕ → ℕ → ℕ → Extra → LifeChange
+call_life pid number result more = if number == EXIT then EndsLife pid else child_life (child_called number result more)
 
 abbrev pub life_told : Record → LifeChange
 life_told (entry.File name bytes) = NoLife
@@ -79,7 +122,7 @@ life_told (entry.Typed bytes) = NoLife
 life_told (entry.Unplug device) = NoLife
 life_told (entry.Slice pid ran) = NoLife
 life_told (entry.Signal pid signal cut handler) = if handler == 0 then EndsLife pid else NoLife
-life_told (entry.Call pid number result more) = call_life pid number result
+life_told (entry.Call pid number result more) = call_life pid number result more
 life_told (entry.End pid status) = EndsLife pid
 
 -- whether a process lives after it, by whether it lived before

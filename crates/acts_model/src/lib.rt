@@ -11,4 +11,7 @@ mod told;
 
 pub use deeds::{Deed, argument, call_deed, call_number, deed_of};
 pub use observer::Observer;
-pub use told::{event_len, is_success, process_of};
+pub use told::{
+    ChildTold, LifeTold, child_called, child_told, event_len, give_of, is_event, is_success,
+    life_told, process_of, start_held,
+};

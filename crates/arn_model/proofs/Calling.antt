@@ -14,7 +14,7 @@ use Rattle.parts_model.specs.Files.{file_bytes, find_file}
 use Rattle.parts_model.specs.Processes as table
 use Rattle.parts_model.specs.Replies.{Answered, is_success}
 use Rattle.rv64_model.specs.Instruction.{Call}
-use Rattle.acts_model.specs.Acts.{Act, Returns, Receives, Forks, Founds, Exits, Faults, Dies, result_of}
+use Rattle.acts_model.specs.Acts.{Act, Returns, Forks, Founds, Exits, Faults, Dies, result_of}
 use Rattle.acts_model.specs.Bodies.{View, seen}
 use Rattle.acts_model.specs.Disagreement.{wrong_with, act_wrong}
 use Rattle.acts_model.specs.Records.{held_len, plain_len, LifeChange, BeginsLife, EndsLife, NoLife, call_life, lives_after, NameChange, NoName, call_name, Written, call_put, put_told, give_in}
@@ -72,7 +72,7 @@ pub record CallTells (m : Machine) (pid : ℕ) (v : View) (n : ℕ) (d : Doing) 
   pub comes : tells.ComesFrom d.act d.incoming
   pub receives : tells.Receives m.kernel d.incoming d.bytes (entry.Call pid n (result_of d.act) d.extra)
   pub spans : tells.Spans d.outgoing d.bytes
-  pub life : call_life pid n (result_of d.act) ≡ life_by pid d.act
+  pub life : call_life pid n (result_of d.act) d.extra ≡ life_by pid d.act
   pub name : call_name n d.extra ≡ naming
   pub put : call_put n d.extra ≡ writing
 
@@ -112,7 +112,7 @@ done-call m pid v n d name put at call k =
 pub record Plain (pid n : ℕ) (cpu : Cpu) (result : ℕ) (more : Extra) : Type 0 where
   pub told : call_act (kind_of n) cpu result more ≡ Returns result
   pub length : unwrap_or (held_len more) (plain_len n result more) ≡ 0
-  pub life : call_life pid n result ≡ NoLife
+  pub life : call_life pid n result more ≡ NoLife
   pub put : call_put n more ≡ None
   pub gives : give_in more ≡ None
 

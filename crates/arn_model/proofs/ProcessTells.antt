@@ -19,7 +19,7 @@ use Rattle.acts_model.specs.Acts.{Receives, Returns, Forks, Founds, Exits}
 use Rattle.acts_model.specs.Bodies.{View}
 use Rattle.acts_model.specs.Disagreement.{wrong_if, or_else, is_outside, isnt_block}
 use Rattle.acts_model.specs.Moved.{Nothing, From, FileByte}
-use Rattle.acts_model.specs.Records.{BeginsLife, NoLife, NoName}
+use Rattle.acts_model.specs.Records.{NoName, child_forked, child_life}
 use Rattle.acts_model.specs.Views.{argument, can_reach}
 use Rattle.arn_model.specs.Doing.{Doing, Does, refuse, refused}
 use Rattle.arn_model.specs.Kernel as kernel
@@ -62,7 +62,7 @@ fork-done m pid v at None e =
       comes = tt;
       receives = refl;
       spans = tt;
-      life = ap (λ (b : Bool). if b then BeginsLife child else NoLife) (child-success pid m.kernel few);
+      life = ap (λ (b : Bool). child_life (if b then Some (child_forked child (child_extra None v)) else None)) (child-success pid m.kernel few);
       name = refl;
       put = refl;
     })
@@ -79,7 +79,7 @@ fork-done m pid v at (Some segment) e =
       comes = tt;
       receives = refl;
       spans = tt;
-      life = ap (λ (b : Bool). if b then BeginsLife child else NoLife) (child-success pid m.kernel few);
+      life = ap (λ (b : Bool). child_life (if b then Some (child_forked child (child_extra (Some segment) v)) else None)) (child-success pid m.kernel few);
       name = refl;
       put = refl;
     })

@@ -1,40 +1,45 @@
 -- 32 bits count the children of forks.
-use Rattle.std.proofs.Common.{◌≡◌, inl, inr, ℕ, ◌+◌, ◌<◌, ◌≤◌, ◌^◌, ◌==◌, ◌||◌, ◌&&◌, Bool, true, false, not, if◌then◌else◌, List, [], ◌∷◌, ◌++◌, length, max, Option, Some, None, IfSome, refl, ap, sym, ◌∙◌, arith, length-append}
+use Rattle.std.proofs.Common.{◌≡◌, inl, inr, ℕ, ◌+◌, ◌<◌, ◌≤◌, ◌^◌, ◌||◌, Bool, true, false, not, if◌then◌else◌, List, [], ◌∷◌, ◌++◌, length, max, Option, Some, None, IfSome, refl, ap, sym, ◌∙◌, arith, length-append}
 use Rattle.std.specs.Prelude.{Contains}
+use Rattle.std.specs.Option.{option_map_or}
 use Rattle.std.proofs.lemmas.Bool.{true≢false, or_parts}
 use Rattle.std.proofs.lemmas.Bool.Decides.{eqb_tells}
 use Rattle.std.proofs.lemmas.Option.{none-some, same_Some}
-use Rattle.arn_base.specs.declared.records.Extra.TheVariants as extra
 use Rattle.arn_base.specs.declared.records.Record.{Record}
 use Rattle.arn_base.specs.declared.records.Record.TheVariants as entry
-use Rattle.parts_model.specs.declared.calls.TheConstants.{FORK}
-use Rattle.parts_model.specs.Replies.{is_success}
-use Rattle.acts_model.specs.Records.{give_of}
+use Rattle.acts_model.specs.Records.{Child, child_founded, child_number, child_told, is_founder, give_of}
 use Rattle.history_model.specs.Broken.{child_in, greatest, greatest_from, greatest_after, misnumbers, cant_follow, comes_wrong, lacks_process, lacks_slice, are_origins, has_blocks_wrong, start_in, misplaces_start, broken_from, first_broken}
 use Rattle.history_model.specs.Exchanges.{founded}
 use Rattle.exchange_graph.proofs.Marks.{none-in, head-or-tail}
 
 -- a child that starts a group is a child
+number-if : (b : Bool) (n g : ℕ) → (if b then Some n else None) ≡ Some g → Some n ≡ Some g
+number-if true n g h = h
+number-if false n g h = absurd (none-some g h)
+
+founded-number : (child : Option Child) (g : ℕ) → child_founded child ≡ Some g → child_number child ≡ Some g
+founded-number None g h = absurd (none-some g h)
+founded-number (Some child) g h = number-if (is_founder child) child.number g h
+
 founded-child : (e : Record) (g : ℕ) → founded e ≡ Some g → child_in e ≡ Some g
-founded-child (entry.Call pid number result (extra.Start start)) g h = h
-founded-child _ g h = absurd (none-some g h)
+founded-child e g h = founded-number (child_told e) g h
 
 -- the greatest number behind one record
-made-some : (b : Bool) (n result g : ℕ) → (if b then Some result else None) ≡ Some g → g ≤ (if b then max n result else n)
-made-some true n result g h = let e = same_Some result g h in omega (arith, e)
-made-some false n result g h = absurd (none-some g h)
+made-some : (child : Option ℕ) (n g : ℕ) → child ≡ Some g → g ≤ option_map_or (max n) child n
+made-some (Some c) n g h = let e = same_Some c g h in omega (arith, e)
+made-some None n g h = absurd (none-some g h)
 
 child-after : (e : Record) (n g : ℕ) → child_in e ≡ Some g → g ≤ greatest_after e n
-child-after (entry.Call pid number result more) n g h = made-some ((number == FORK) && is_success result) n result g h
-child-after _ n g h = absurd (none-some g h)
+child-after (entry.Boot name give) n g h = absurd (none-some g h)
+child-after e n g h = made-some (child_in e) n g h
 
-made-more : (b : Bool) (n result : ℕ) → n ≤ (if b then max n result else n)
-made-more true n result = omega arith
-made-more false n result = omega arith
+made-more : (child : Option ℕ) (n : ℕ) → n ≤ option_map_or (max n) child n
+made-more (Some c) n = omega arith
+made-more None n = omega arith
 
 after-more : (e : Record) (n : ℕ) → n ≤ greatest_after e n
-after-more (entry.Call pid number result more) n = made-more ((number == FORK) && is_success result) n result
-after-more _ n = omega arith
+after-more (entry.Boot name give) n = omega arith
+after-more e n = made-more (child_in e) n
 
 -- and behind some
 from-more : (entries : List Record) (n : ℕ) → n ≤ greatest_from n entries
@@ -50,14 +55,14 @@ child-from (x ∷ entries) n e g has h =
     ]
 
 -- where no record breaks, each makes at most one process
-made-one : (before : List Record) (b : Bool) (result : ℕ) → misnumbers before (if b then Some result else None) ≡ false → (if b then max (greatest before) result else greatest before) ≤ greatest before + 1
-made-one before true result h =
-    elim (eqb_tells result (greatest before + 1)) [ inl is ↦ omega (arith, is.1) | inr apart ↦ absurd (true≢false (rw apart.0 at h)) ]
-made-one before false result h = omega arith
+made-one : (before : List Record) (child : Option ℕ) → misnumbers before child ≡ false → option_map_or (max (greatest before)) child (greatest before) ≤ greatest before + 1
+made-one before (Some c) h =
+    elim (eqb_tells c (greatest before + 1)) [ inl is ↦ omega (arith, is.1) | inr apart ↦ absurd (true≢false (rw apart.0 at h)) ]
+made-one before None h = omega arith
 
 after-one : (before : List Record) (e : Record) → misnumbers before (child_in e) ≡ false → greatest_after e (greatest before) ≤ greatest before + 1
-after-one before (entry.Call pid number result more) h = made-one before ((number == FORK) && is_success result) result h
-after-one before _ h = omega arith
+after-one before (entry.Boot name give) h = omega arith
+after-one before e h = made-one before (child_in e) h
 
 from-push : (entries : List Record) (n : ℕ) (e : Record) → greatest_from n (entries ++ e ∷ []) ≡ greatest_after e (greatest_from n entries)
 from-push [] n e = refl

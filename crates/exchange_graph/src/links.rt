@@ -7,6 +7,7 @@ ghost use Rattle.history_model.specs.Groups.{event_group};
 ghost use Rattle.exchange_graph.specs.Links.{link_between, byte_links, give_links, event_links, links_of};
 
 use crate::told;
+use acts_model::is_event;
 use arn_base::{Give, NoMemory, Origin, Record};
 use history_index::Index;
 use std::alloc::Global;
@@ -97,7 +98,7 @@ pub fn links(alloc: Global, entries: &[Record], index: &Index) -> Result<Vec<Lin
     let mut links = Vec::new(alloc);
     let mut event = 0;
     for entry in entries {
-        if told::is_event(entry) {
+        if is_event(entry) {
             push_event(&mut links, index, event, entry)?;
             event += 1;
         }

@@ -1,26 +1,10 @@
 // What one record tells of exchanges.
 ghost use Rattle.std.specs.Prelude.{◌≡◌, option_map};
-ghost use Rattle.acts_model.specs.Records as records;
 ghost use Rattle.history_model.specs.Exchanges as exchanges;
 
-use acts_model::is_success;
+use acts_model::child_told;
 use arn_base::{Extra, Give, Record};
-use parts_model::calls::{EXEC, FORK, READ, WAIT};
-
-pub fn is_event(entry: &Record) -> bool
-    ensures { result ≡ records.is_event entry.now }
-{
-    match entry {
-        Record::Slice { .. } => false,
-        Record::File { .. }
-        | Record::Boot { .. }
-        | Record::Typed { .. }
-        | Record::Unplug { .. }
-        | Record::Signal { .. }
-        | Record::Call { .. }
-        | Record::End { .. } => true,
-    }
-}
+use parts_model::calls::{EXEC, READ, WAIT};
 
 /// Whether a call receives bytes with their origins.
 fn is_receiving(number: u64) -> bool
@@ -44,17 +28,12 @@ pub fn received(entry: &Record) -> Option<&Give>
     }
 }
 
-/// The child of a fork that started a group.
+/// The child that an event made, if it started a group.
 pub fn founded(entry: &Record) -> Option<u64>
     ensures { result ≡ exchanges.founded entry.now }
 {
-    match entry {
-        Record::Call {
-            number,
-            result,
-            extra: Extra::Start(_),
-            ..
-        } if *number == FORK && is_success(*result) => Some(*result),
+    match child_told(entry) {
+        Some(child) if child.start.is_some() => Some(child.number),
         _ => None,
     }
 }

@@ -8,6 +8,7 @@ ghost use Rattle.file_versions.specs.Tables.{name_in, nothing_before, with_recor
 
 use crate::names::Naming;
 use crate::writes::Writing;
+use acts_model::is_event;
 use arn_base::{Extra, Record};
 use parts_model::calls::{OPEN, UNLINK, WRITE};
 
@@ -31,10 +32,7 @@ fn ran_in(entry: &Record) -> u32
 fn events_in(entry: &Record) -> u64
     ensures { result ≡ events_in entry.now }
 {
-    match entry {
-        Record::Slice { .. } => 0,
-        _ => 1,
-    }
+    is_event(entry).into()
 }
 
 fn brought_by(entry: &Record) -> u32

@@ -1,23 +1,20 @@
 -- What more records leave as it was: who is of which group, its slices so far, and the event by which it begins.
-use Rattle.std.proofs.Common.{◌≡◌, ℕ, ◌+◌, ◌<◌, ◌≤◌, ◌==◌, ◌&&◌, not, max, Bool, true, false, if◌then◌else◌, cond, List, [], ◌∷◌, ◌++◌, length, filter, Option, Some, None, position, slice_get, refl, ap, sym, ◌∙◌, arith, eqb-true, ne_eqb, length-append}
+use Rattle.std.proofs.Common.{◌≡◌, ℕ, ◌+◌, ◌<◌, ◌≤◌, ◌==◌, not, max, Bool, true, false, if◌then◌else◌, cond, List, [], ◌∷◌, ◌++◌, length, filter, Option, Some, None, position, slice_get, refl, ap, sym, ◌∙◌, arith, eqb-true, ne_eqb, length-append}
 use Rattle.std.specs.List.{position_from}
+use Rattle.std.specs.Option.{option_map_or}
 use Rattle.std.proofs.lemmas.Iterator.Adapters.{position_from-zero}
 use Rattle.std.proofs.lemmas.List.{get_or_append_left}
 use Rattle.std.proofs.lemmas.List.Elements.{filter-append}
 use Rattle.std.proofs.lemmas.List.Quantifiers.{position-Some}
 use Rattle.std.proofs.lemmas.Option.{slice_get-get_or, slice_get_within}
-use Rattle.arn_base.specs.declared.records.Extra.{Extra}
-use Rattle.arn_base.specs.declared.records.Extra.TheVariants as extra
 use Rattle.arn_base.specs.declared.records.Record.{Record}
 use Rattle.arn_base.specs.declared.records.Record.TheVariants as entry
-use Rattle.acts_model.specs.Records.{is_event}
-use Rattle.parts_model.specs.declared.calls.TheConstants.{FORK}
-use Rattle.parts_model.specs.Replies.{is_success}
+use Rattle.acts_model.specs.Records.{Child, child_called, child_number, is_event}
 use Rattle.history_index.specs.Lookups.{event_moment, founding_event, founds, moments_from, slices_from, slices_of}
 use Rattle.history_index.specs.declared.slices.SliceAt.{SliceAt}
-use Rattle.history_model.specs.Broken.{broken_from, greatest, greatest_after, greatest_from, misnumbers}
+use Rattle.history_model.specs.Broken.{broken_from, child_in, greatest, greatest_after, greatest_from, misnumbers}
 use Rattle.history_model.specs.Events.{event_at, events}
-use Rattle.history_model.specs.Groups.{Groups, group_forked, group_of, groups_from, groups_told, is_number}
+use Rattle.history_model.specs.Groups.{Groups, child_group, group_made, group_of, groups_from, groups_told, is_number}
 use Rattle.history_model.specs.Moments.{changed}
 use Rattle.history_model.specs.Names.{is_booted}
 use Rattle.group_extents.proofs.Goes.{booted-more, goes-on}
@@ -39,38 +36,28 @@ groups-append : (xs ys : List Record) (groups : Groups) → groups_from (xs ++ y
 groups-append [] ys groups = refl
 groups-append (e ∷ xs) ys groups = groups-append xs ys (groups_told e groups)
 
-grows-if : (b : Bool) (n child : ℕ) → n ≤ (if b then max n child else n)
-grows-if true n child = omega arith
-grows-if false n child = omega arith
+grows-if : (child : Option ℕ) (n : ℕ) → n ≤ option_map_or (max n) child n
+grows-if (Some c) n = omega arith
+grows-if None n = omega arith
 
 grows : (e : Record) (n : ℕ) → n ≤ greatest_after e n
-grows (entry.Call pid number result more) n = grows-if ((number == FORK) && is_success result) n result
 grows (entry.Boot name give) n = omega arith
-grows (entry.File name bytes) n = omega arith
-grows (entry.Typed bytes) n = omega arith
-grows (entry.Unplug device) n = omega arith
-grows (entry.Slice pid ran) n = omega arith
-grows (entry.Signal pid signal cut handler) n = omega arith
-grows (entry.End pid status) n = omega arith
+grows e n = grows-if (child_in e) n
 
--- a fork that can follow makes a process that wasn't there
+-- a record that can follow makes no process but one that wasn't there
 changed-other : (groups : Groups) (child p : ℕ) (o : Option ℕ) → p < child → changed groups child o p ≡ groups p
 changed-other groups child p o less = ap (λ (b : Bool). if b then o else groups p) (ne_eqb p child (λ same. omega (arith, same, less)))
 
-forked-other : (pid child p : ℕ) (more : Extra) (groups : Groups) → p < child → group_forked pid child more groups p ≡ groups p
-forked-other pid child p (extra.Start start) groups less = changed-other groups child p (Some child) less
-forked-other pid child p more groups less = changed-other groups child p (groups pid) less
-
-called-other : (forks : Bool) (before : List Record) (pid child p : ℕ) (more : Extra) (groups : Groups) → misnumbers before (if forks then Some child else None) ≡ false → p ≤ greatest before → (if forks then group_forked pid child more groups else groups) p ≡ groups p
-called-other true before pid child p more groups numbers le =
-    let next = eqb-true child (greatest before + 1) (un-not (child == greatest before + 1) numbers) in
-    forked-other pid child p more groups (omega (arith, next, le))
-called-other false before pid child p more groups numbers le = refl
+called-other : (child : Option Child) (before : List Record) (pid p : ℕ) (groups : Groups) → misnumbers before (child_number child) ≡ false → p ≤ greatest before → group_made pid child groups p ≡ groups p
+called-other (Some child) before pid p groups numbers le =
+    let next = eqb-true child.number (greatest before + 1) (un-not (child.number == greatest before + 1) numbers) in
+    changed-other groups child.number p (child_group child (groups pid)) (omega (arith, next, le))
+called-other None before pid p groups numbers le = refl
 
 told-other : (before : List Record) (e : Record) (rest : List Record) (groups : Groups) (p : ℕ) → is_booted before ≡ true → broken_from before (e ∷ rest) ≡ None → p ≤ greatest before → groups_told e groups p ≡ groups p
 told-other before (entry.Boot name give) rest groups p b h le = no-way (sym b ∙ (goes-on before (entry.Boot name give) rest h).side)
 told-other before (entry.Call pid number result more) rest groups p b h le =
-    called-other ((number == FORK) && is_success result) before pid result p more groups (goes-on before (entry.Call pid number result more) rest h).numbers le
+    called-other (child_called number result more) before pid p groups (goes-on before (entry.Call pid number result more) rest h).numbers le
 told-other before (entry.File name bytes) rest groups p b h le = refl
 told-other before (entry.Typed bytes) rest groups p b h le = refl
 told-other before (entry.Unplug device) rest groups p b h le = refl

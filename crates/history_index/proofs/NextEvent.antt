@@ -9,13 +9,13 @@ use Rattle.arn_base.specs.declared.records.Record.{Record}
 use Rattle.arn_base.specs.declared.records.Record.TheVariants as entry
 use Rattle.parts_model.specs.declared.calls.TheConstants.{FORK, EXIT}
 use Rattle.parts_model.specs.Replies.{is_success}
-use Rattle.acts_model.specs.Records.{is_event, give_of, LifeChange, BeginsLife, EndsLife, NoLife, life_told, lives_after}
+use Rattle.acts_model.specs.Records.{is_event, give_of, LifeChange, BeginsLife, EndsLife, NoLife, child_forked, child_life, life_told, lives_after}
 use Rattle.history_model.specs.Broken.{Behind, Nowhere, ASlice, ADelivery, behind, is_behind, lacks_slice, are_origins, has_blocks_wrong, start_in, misnumbers, child_in, misplaces_start, cant_follow, greatest, greatest_after}
-use Rattle.history_model.specs.Groups.{Groups, groups_told, group_forked, group_of, is_number}
+use Rattle.history_model.specs.Groups.{Groups, groups_told, group_made, group_of, is_number}
 use Rattle.history_model.specs.Names.{is_boot, is_booted}
 use Rattle.history_model.specs.Moments.{changed}
 use Rattle.replay_groups.specs.Groups.{group_at}
-use Rattle.history_index.specs.After.{born_group, child_group, ended_by, with_end}
+use Rattle.history_index.specs.After.{born_group, child_group_in, ended_by, with_end}
 use Rattle.history_index.specs.Families.{Families, lives_in, with_ended}
 use Rattle.history_index.specs.Indexes.{Indexes, IsMade, IsFounded}
 use Rattle.history_index.specs.Lookups.{founds}
@@ -50,9 +50,10 @@ quiet-if true pid = tt
 quiet-if false pid = tt
 
 -- what a call makes, where it is a successful fork or isn't
-quiet-call : (b : Bool) (number pid result : ℕ) → b ≡ false → IsQuiet (if number == EXIT then EndsLife pid else if b then BeginsLife result else NoLife)
-quiet-call true number pid result is = cc
-quiet-call false number pid result is = quiet-if (number == EXIT) pid
+quiet-call : (b : Bool) (number pid result : ℕ) (more : Extra) → b ≡ false
+    → IsQuiet (if number == EXIT then EndsLife pid else child_life (if b then Some (child_forked result more) else None))
+quiet-call true number pid result more is = cc
+quiet-call false number pid result more is = quiet-if (number == EXIT) pid
 
 -- whether a process lives behind an end
 ended-same : (lives : List Bool) (p q : ℕ) → p ≡ q → lives_in (with_ended lives p) q ≡ false
@@ -108,10 +109,10 @@ hand-inside (ADelivery p) n pid made is = let e = eqb-true p pid is in (omega (a
 
 -- the group of a fork's child: its own, or its parent's
 record ChildOf (f : Families) (told : Groups) (pid child parent : ℕ) (more : Extra) (group : ℕ) : Type 0 where
-  born : child_group f pid more ≡ Some group
-  groups : group_forked pid child more told ≡ changed told child (Some group)
+  born : child_group_in f pid (child_forked child more) ≡ Some group
+  groups : group_made pid (Some (child_forked child more)) told ≡ changed told child (Some group)
   own : (group ≡ child) ⊎ (group ≡ parent)
-  first : (h : ℕ) → is_number h (group_forked pid child more (λ p. None) h) ≡ ((h == child) && (group == child))
+  first : (h : ℕ) → is_number h (group_made pid (Some (child_forked child more)) (λ p. None) h) ≡ ((h == child) && (group == child))
 
 -- of a process alone: it has the group that it begins, or none
 number-first : (h child : ℕ) → is_number h (changed {A = Option ℕ} (λ p. None) child (Some child) h) ≡ ((h == child) && (child == child))
@@ -153,11 +154,11 @@ fork-fails f told n pid number result more fails = record {
   born = rw fails refl;
   groups = rw fails refl;
   greatest = rw fails refl;
-  life = quiet-call ((number == FORK) && is_success result) number pid result fails;
+  life = quiet-call ((number == FORK) && is_success result) number pid result more fails;
   founds = λ h. rw fails refl;
 }
 
-fork-makes : (f : Families) (told : Groups) (n pid number result : ℕ) (more : Extra) (group : ℕ) → ((number == FORK) && is_success result) ≡ true → result ≡ n + 1 → child_group f pid more ≡ Some group → group_forked pid result more told ≡ changed told result (Some group) → IsFounded (n + 1) group → 0 < n → ((h : ℕ) → is_number h (group_forked pid result more (λ p. None) h) ≡ ((h == result) && (group == result))) → MakesNext f told n (entry.Call pid number result more) group
+fork-makes : (f : Families) (told : Groups) (n pid number result : ℕ) (more : Extra) (group : ℕ) → ((number == FORK) && is_success result) ≡ true → result ≡ n + 1 → child_group_in f pid (child_forked result more) ≡ Some group → group_made pid (Some (child_forked result more)) told ≡ changed told result (Some group) → IsFounded (n + 1) group → 0 < n → ((h : ℕ) → is_number h (group_made pid (Some (child_forked result more)) (λ p. None) h) ≡ ((h == result) && (group == result))) → MakesNext f told n (entry.Call pid number result more) group
 fork-makes f told n pid number result more group forks next born groups founded some first = record {
   born = rw forks born;
   groups = rw forks (groups ∙ ap (λ (k : ℕ). changed told k (Some group)) next);

@@ -1,12 +1,8 @@
 -- What an index holds with one more record.
-use Rattle.std.specs.Prelude.{ℕ, ◌+◌, ◌==◌, ◌&&◌, ◌||◌, if◌then◌else◌, [], ◌∷◌, ◌++◌, length, Option, Some, None}
-use Rattle.arn_base.specs.declared.records.Extra.{Extra}
-use Rattle.arn_base.specs.declared.records.Extra.TheVariants as extra
+use Rattle.std.specs.Prelude.{ℕ, ◌+◌, ◌||◌, if◌then◌else◌, [], ◌∷◌, ◌++◌, length, Option, Some, None, option_and_then}
 use Rattle.arn_base.specs.declared.records.Record.{Record}
 use Rattle.arn_base.specs.declared.records.Record.TheVariants as entry
-use Rattle.parts_model.specs.declared.calls.TheConstants.{FORK}
-use Rattle.parts_model.specs.Replies.{is_success}
-use Rattle.acts_model.specs.Records.{LifeChange, BeginsLife, EndsLife, NoLife, life_told, event_len, process_of}
+use Rattle.acts_model.specs.Records.{Child, LifeChange, BeginsLife, EndsLife, NoLife, child_called, is_founder, life_told, event_len, process_of}
 use Rattle.history_model.specs.Broken.{ASlice, behind_record}
 use Rattle.history_model.specs.Names.{is_boot}
 use Rattle.replay_groups.specs.Groups.{group_at}
@@ -16,15 +12,14 @@ use Rattle.history_index.specs.Families.{Families, with_ended, with_process, run
 use Rattle.history_index.specs.Lookups.{moment_in}
 use Rattle.history_index.specs.Tables.{Tables}
 
--- the group of the child that a fork made
-abbrev pub child_group : Families → ℕ → Extra → Option ℕ
-child_group f pid (extra.Start start) = Some (length f.lives)
-child_group f pid more = group_at f.groups pid
+-- the group of a child of a process: a new one where it starts a group, else its maker's
+abbrev pub child_group_in : Families → ℕ → Child → Option ℕ
+child_group_in f pid child = if is_founder child then Some (length f.lives) else group_at f.groups pid
 
 -- the group of the process that a record makes, if it makes one
 abbrev pub born_group : Families → Record → Option ℕ
 born_group f (entry.Boot name give) = Some (length f.lives)
-born_group f (entry.Call pid number result more) = if (number == FORK) && is_success result then child_group f pid more else None
+born_group f (entry.Call pid number result more) = option_and_then (child_group_in f pid) (child_called number result more)
 born_group f other = None
 
 -- a process is made by an event, or none

@@ -1,8 +1,8 @@
 // The events of a history.
 ghost use Rattle.std.specs.Prelude.{◌≡◌};
-ghost use Rattle.acts_model.specs.Records as records;
 ghost use Rattle.history_index.specs.Lookups.{moment_in};
 
+use acts_model::is_event;
 use arn_base::Record;
 
 /// An event: the number of its record, its moment, its process, and how many bytes it has.
@@ -27,10 +27,4 @@ pub fn moment_of(begins: u64, ends: u64, entry: &Record) -> u64
 /// How many of these records tell an event. It only says for how many room is made, so nothing rests on it.
 pub fn count(entries: &[Record]) -> usize {
     entries.iter().filter(|entry| is_event(entry)).count()
-}
-
-fn is_event(entry: &Record) -> bool
-    ensures { result ≡ records.is_event entry.now }
-{
-    !matches!(entry, Record::Slice { .. })
 }

@@ -4,14 +4,14 @@ ghost use Rattle.replay_groups.specs.Groups as groups;
 ghost use Rattle.history_index.specs.Families as families;
 ghost use Rattle.parts_model.specs.Numbered.{nth};
 ghost use Rattle.acts_model.specs.Records.{life_told};
+ghost use Rattle.acts_model.specs.Seen.{child_seen};
 ghost use Rattle.history_index.specs.After as after;
 ghost use Rattle.history_index.specs.Runs.{no_run};
 
 use crate::runs::Run;
 use crate::{SliceAt, told};
-use acts_model::is_success;
-use arn_base::{Extra, NoMemory, Record};
-use parts_model::calls::FORK;
+use acts_model::{ChildTold, child_called};
+use arn_base::{NoMemory, Record};
 use replay_groups::Groups;
 use std::alloc::Global;
 use std::marker::Model;
@@ -199,16 +199,16 @@ impl Families {
         Ok(())
     }
 
-    /// The group of the child that a fork made.
-    fn child_group(&self, pid: u32, extra: &Extra) -> Option<u32>
+    /// The group of a child of a process.
+    fn child_group(&self, pid: u32, child: ChildTold<'_>) -> Option<u32>
         requires few { length self.now.lives < 2 ^ 32 }
-        ensures group { result ≡ after.child_group self.now pid extra.now }
+        ensures group { result ≡ after.child_group_in self.now pid (child_seen child.entry) }
         ensures started { IfSome result (λ group. group ≢ length self.now.lives
             → groups.IsStarted self.now.groups group) }
     {
-        match extra {
-            Extra::Start(_) => Some(self.next() as u32),
-            _ => self.group_of(pid),
+        match child.start {
+            Some(_) => Some(self.next() as u32),
+            None => self.group_of(pid),
         }
     }
 
@@ -226,7 +226,7 @@ impl Families {
                 number,
                 result,
                 extra,
-            } if *number == FORK && is_success(*result) => { self.child_group(*pid, extra) }
+            } => self.child_group(*pid, child_called(*number, *result, extra)?),
             _ => None,
         }
     }

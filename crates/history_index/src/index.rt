@@ -17,6 +17,7 @@ use crate::at_hand::AtHand;
 use crate::events::{self, EventAt};
 use crate::families::Families;
 use crate::{IndexError, SliceAt, check, told};
+use acts_model::give_of;
 use arn_base::{NoMemory, Record};
 use std::alloc::Global;
 use std::marker::Model;
@@ -78,7 +79,7 @@ impl Index {
         check::comes_wrong(self.is_booted, entry)
             || check::lacks_process(&self.families, entry)
             || check::lacks_slice(self.at_hand, entry)
-            || !check::are_origins(self.events.as_slice(), told::give_of(entry))
+            || !check::are_origins(self.events.as_slice(), give_of(entry))
             || check::has_blocks_wrong(told::start_in(entry))
             || check::misnumbers(self.families.next() as u64, told::child_in(entry))
             || check::misplaces_start(entry)

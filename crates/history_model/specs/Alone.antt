@@ -1,17 +1,14 @@
 -- A group alone: what its own records make of it, one record after the other, up to a moment, without a kernel and other groups.
 use Rattle.std.specs.Prelude.{ℕ, zero, suc, ◌+◌, ◌-◌, ◌^◌, ◌==◌, nat_le, ◌&&◌, min, Bool, true, false, if◌then◌else◌, List, [], ◌∷◌, ◌++◌, Option, Some, None}
-use Rattle.arn_base.specs.declared.records.Extra.{Extra}
-use Rattle.arn_base.specs.declared.records.Extra.TheVariants as extra
 use Rattle.arn_base.specs.declared.records.Record.{Record}
 use Rattle.arn_base.specs.declared.records.Record.TheVariants as entry
 use Rattle.arn_base.specs.declared.records.Start.{Start}
 use Rattle.rv64_model.specs.Instruction.{Effect, Next, Call, End}
-use Rattle.parts_model.specs.declared.calls.TheConstants.{FORK}
-use Rattle.parts_model.specs.Replies.{is_success}
 use Rattle.acts_model.specs.Acts.{Act, begun, beginning_in, done, unborn}
 use Rattle.acts_model.specs.Bodies.{Bodies, View, nobody, put, seen}
 use Rattle.acts_model.specs.Disagreement.{Wrong, wrong_with}
 use Rattle.acts_model.specs.Moved.{Inside}
+use Rattle.acts_model.specs.Records.{child_called, child_start}
 use Rattle.acts_model.specs.Told.{act_of}
 use Rattle.acts_model.specs.Transfers.{Begins, holds_of, transfer, instr_transfer}
 use Rattle.acts_model.specs.Views.{stands_at, after_instr}
@@ -118,11 +115,6 @@ abbrev pub ends_slice : Slice → ℕ → Record → Own → Made
 ends_slice slice zero e own = no_instruction slice.event e (Makes own)
 ends_slice slice (suc left) e own = and_then (plains slice 0 left own) (happens slice.pid slice.event e)
 
--- how a child begins that starts a group, if the record is of such a fork
-abbrev pub call_start : ℕ → ℕ → Extra → Option Start
-call_start number result (extra.Start start) = if (number == FORK) && is_success result then Some start else None
-call_start number result more = None
-
 -- the group's first process begins, with what the fork's record holds
 abbrev pub begin_inside : ℕ → ℕ → Record → Start → Inside
 begin_inside g event e start =
@@ -137,7 +129,7 @@ begins_if g child event e (Some start) own = if child == g then Makes (begins g 
 
 -- a group's number is that of its first process
 abbrev pub begins_by : ℕ → ℕ → Record → Own → Made
-begins_by g event (entry.Call pid number result more) own = begins_if g result event (entry.Call pid number result more) (call_start number result more) own
+begins_by g event (entry.Call pid number result more) own = begins_if g result event (entry.Call pid number result more) (child_start (child_called number result more)) own
 begins_by g event other own = Makes own
 
 -- Where a replay stands. When each part changes:

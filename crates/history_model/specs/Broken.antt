@@ -1,18 +1,15 @@
 -- Which lists of records can't be indexed, whatever the machine would have done: the first record that can't stand behind those before it.
 use Rattle.std.specs.Prelude.{ℕ, ◌+◌, ◌*◌, ◌==◌, nat_le, ◌&&◌, ◌||◌, not, Bool, true, false, if◌then◌else◌, List, [], ◌∷◌, ◌++◌, length, max, Option, Some, None, is_some}
 use Rattle.std.specs.List.{list_all}
+use Rattle.std.specs.Option.{option_map_or}
 use Rattle.arn_base.specs.declared.machine.Block.{Block}
-use Rattle.arn_base.specs.declared.records.Extra.{Extra}
-use Rattle.arn_base.specs.declared.records.Extra.TheVariants as extra
 use Rattle.arn_base.specs.declared.records.Give.{Give}
 use Rattle.arn_base.specs.declared.records.Origin.{Origin}
 use Rattle.arn_base.specs.declared.records.Record.{Record}
 use Rattle.arn_base.specs.declared.records.Record.TheVariants as entry
 use Rattle.arn_base.specs.declared.records.Start.{Start}
-use Rattle.parts_model.specs.declared.calls.TheConstants.{FORK}
 use Rattle.parts_model.specs.declared.limits.TheConstants.{BLOCK_LEN, WINDOW_LEN}
-use Rattle.parts_model.specs.Replies.{is_success}
-use Rattle.acts_model.specs.Records.{give_of}
+use Rattle.acts_model.specs.Records.{child_number, child_told, give_of, start_held}
 use Rattle.history_model.specs.Events.{len_of}
 use Rattle.history_model.specs.Moments.{lives_at, total}
 use Rattle.history_model.specs.Names.{is_booted}
@@ -88,23 +85,21 @@ rise_from least [] = true
 rise_from least (b ∷ blocks) = nat_le least b.number && (nat_le (BLOCK_LEN * (b.number + 1)) WINDOW_LEN && rise_from (b.number + 1) blocks)
 
 abbrev pub start_in : Record → Option Start
-start_in (entry.Call pid number result (extra.Start start)) = Some start
+start_in (entry.Call pid number result more) = start_held more
 start_in other = None
 
 abbrev pub has_blocks_wrong : Option Start → Bool
 has_blocks_wrong None = false
 has_blocks_wrong (Some start) = not (rise_from 0 start.blocks)
 
--- the child that a fork made
+-- the number of the child that a record tells of
 abbrev pub child_in : Record → Option ℕ
-child_in (entry.Call pid number result more) = if (number == FORK) && is_success result then Some result else None
-child_in other = None
+child_in e = child_number (child_told e)
 
 -- the greatest number of a process: 1 is there from the boot on
 abbrev pub greatest_after : Record → ℕ → ℕ
 greatest_after (entry.Boot name give) n = max n 1
-greatest_after (entry.Call pid number result more) n = if (number == FORK) && is_success result then max n result else n
-greatest_after other n = n
+greatest_after other n = option_map_or (max n) (child_in other) n
 
 abbrev pub greatest_from : ℕ → List Record → ℕ
 greatest_from n [] = n
@@ -118,7 +113,7 @@ abbrev pub misnumbers : List Record → Option ℕ → Bool
 misnumbers before None = false
 misnumbers before (Some child) = not (child == greatest before + 1)
 
--- how a child begins stands only with a fork that made one
+-- how a child begins stands only with a record that tells of one
 abbrev pub misplaces_start : Record → Bool
 misplaces_start e = is_some (start_in e) && not (is_some (child_in e))
 

@@ -1,13 +1,13 @@
 -- Which groups received bytes of which, and which are connected through others.
-use Rattle.std.specs.Prelude.{◌≡◌, ℕ, ◌==◌, ◌||◌, ◌&&◌, Bool, if◌then◌else◌, List, Option, Some, None, option_and_then, Contains}
+use Rattle.std.specs.Prelude.{◌≡◌, ℕ, ◌==◌, ◌||◌, Bool, if◌then◌else◌, List, Option, Some, None, option_and_then, Contains}
 use Rattle.arn_base.specs.declared.records.Extra.{Extra}
 use Rattle.arn_base.specs.declared.records.Extra.TheVariants as extra
 use Rattle.arn_base.specs.declared.records.Give.{Give}
 use Rattle.arn_base.specs.declared.records.Origin.{Origin}
 use Rattle.arn_base.specs.declared.records.Record.{Record}
 use Rattle.arn_base.specs.declared.records.Record.TheVariants as entry
-use Rattle.parts_model.specs.declared.calls.TheConstants.{FORK, EXEC, WAIT, READ}
-use Rattle.parts_model.specs.Replies.{is_success}
+use Rattle.parts_model.specs.declared.calls.TheConstants.{EXEC, WAIT, READ}
+use Rattle.acts_model.specs.Records.{child_founded, child_told}
 use Rattle.history_model.specs.Events.{event_at}
 use Rattle.history_model.specs.Groups.{event_group}
 
@@ -25,16 +25,11 @@ received (entry.Boot name give) = Some give
 received (entry.Call pid number result more) = call_received number more
 received other = None
 
--- the child of a fork that started a group
-abbrev pub call_founded : ℕ → ℕ → Extra → Option ℕ
-call_founded number result (extra.Start start) = if (number == FORK) && is_success result then Some result else None
-call_founded number result more = None
-
+-- the child that an event made, if it started a group
 abbrev pub founded : Record → Option ℕ
-founded (entry.Call pid number result more) = call_founded number result more
-founded other = None
+founded e = child_founded (child_told e)
 
--- group h is connected to group g: g received a byte of an event of h, or a fork in h started g
+-- group h is connected to group g: g received a byte of an event of h, or a process of h made the child that started g
 pub data Edge (entries : List Record) (h g : ℕ) : Type 0 where
   ByBytes : (n : ℕ) (give : Give) (origin : Origin) → event_group entries n ≡ Some g → option_and_then received (event_at entries n) ≡ Some give
       → Contains give.origins origin → event_group entries origin.event ≡ Some h → Edge entries h g

@@ -1,12 +1,8 @@
 -- Groups of processes that are replayed together, and what each has run.
-use Rattle.std.specs.Prelude.{ℕ, ◌+◌, ◌==◌, ◌&&◌, Bool, false, if◌then◌else◌, List, [], ◌∷◌, Option, Some, None, option_and_then}
-use Rattle.arn_base.specs.declared.records.Extra.{Extra}
-use Rattle.arn_base.specs.declared.records.Extra.TheVariants as extra
+use Rattle.std.specs.Prelude.{ℕ, ◌+◌, ◌==◌, Bool, false, if◌then◌else◌, List, [], ◌∷◌, Option, Some, None, option_and_then}
 use Rattle.arn_base.specs.declared.records.Record.{Record}
 use Rattle.arn_base.specs.declared.records.Record.TheVariants as entry
-use Rattle.parts_model.specs.declared.calls.TheConstants.{FORK}
-use Rattle.parts_model.specs.Replies.{is_success}
-use Rattle.acts_model.specs.Records.{process_of}
+use Rattle.acts_model.specs.Records.{Child, child_called, is_founder, process_of}
 use Rattle.history_model.specs.Events.{event_at}
 use Rattle.history_model.specs.Moments.{changed}
 
@@ -14,18 +10,18 @@ use Rattle.history_model.specs.Moments.{changed}
 abbrev pub Groups : Type 0
 Groups = ℕ → Option ℕ
 
--- a child starts a group of its own exactly where the fork's record holds how it begins; else it joins its parent's
-abbrev pub group_forked : ℕ → ℕ → Extra → Groups → Groups
-group_forked pid child (extra.Start start) groups = changed groups child (Some child)
-group_forked pid child more groups = changed groups child (groups pid)
+-- the group of a child: one of its own where it starts a group, else its maker's
+abbrev pub child_group : Child → Option ℕ → Option ℕ
+child_group child maker = if is_founder child then Some child.number else maker
 
-abbrev pub group_called : ℕ → ℕ → ℕ → Extra → Groups → Groups
-group_called pid number result more groups = if (number == FORK) && is_success result then group_forked pid result more groups else groups
+abbrev pub group_made : ℕ → Option Child → Groups → Groups
+group_made pid None groups = groups
+group_made pid (Some child) groups = changed groups child.number (child_group child (groups pid))
 
 -- process 1 starts group 1
 abbrev pub groups_told : Record → Groups → Groups
 groups_told (entry.Boot name give) groups = changed groups 1 (Some 1)
-groups_told (entry.Call pid number result more) groups = group_called pid number result more groups
+groups_told (entry.Call pid number result more) groups = group_made pid (child_called number result more) groups
 groups_told other groups = groups
 
 abbrev pub groups_from : List Record → Groups → Groups

@@ -4,9 +4,8 @@ use Rattle.arn_base.specs.declared.records.Extra.{Extra}
 use Rattle.arn_base.specs.declared.records.Extra.TheVariants as extra
 use Rattle.arn_base.specs.declared.records.Record.{Record}
 use Rattle.arn_base.specs.declared.records.Record.TheVariants as entry
-use Rattle.parts_model.specs.declared.calls.TheConstants.{EXEC, FORK, SHM}
-use Rattle.parts_model.specs.Replies.{is_success}
-use Rattle.acts_model.specs.Records.{life_told, lives_after}
+use Rattle.parts_model.specs.declared.calls.TheConstants.{EXEC, SHM}
+use Rattle.acts_model.specs.Records.{Child, child_called, is_founder, life_told, lives_after}
 
 -- how many instructions a record counts
 abbrev pub ran_in : Record → ℕ
@@ -53,11 +52,14 @@ lives_at entries moment pid = lives_by (events_until moment entries) pid false
 abbrev pub changed : {A : Type 0} → (ℕ → A) → ℕ → A → ℕ → A
 changed f k x i = if i == k then x else f i
 
--- Which segment, named by the event that made it, each process holds after an event: a fresh one, its parent's, or none. A child that
+-- Which segment, named by the event that made it, each process holds after an event: a fresh one, its maker's, or none. A child that
 -- starts a group holds none, and nor does a process that starts from an image.
-abbrev pub segment_forked : ℕ → ℕ → Extra → (ℕ → Option ℕ) → ℕ → Option ℕ
-segment_forked pid child (extra.Start start) held = changed held child None
-segment_forked pid child more held = changed held child (held pid)
+abbrev pub child_segment : Child → Option ℕ → Option ℕ
+child_segment child maker = if is_founder child then None else maker
+
+abbrev pub segment_made : ℕ → Option Child → (ℕ → Option ℕ) → ℕ → Option ℕ
+segment_made pid None held = held
+segment_made pid (Some child) held = changed held child.number (child_segment child (held pid))
 
 abbrev pub segment_started : ℕ → Extra → (ℕ → Option ℕ) → ℕ → Option ℕ
 segment_started pid (extra.Give give) held = changed held pid None
@@ -66,9 +68,8 @@ segment_started pid more held = held
 abbrev pub segment_called : ℕ → ℕ → ℕ → ℕ → Extra → (ℕ → Option ℕ) → ℕ → Option ℕ
 segment_called n pid number result more held =
     if (number == SHM) && (result == 0) then changed held pid (Some n)
-    else if (number == FORK) && is_success result then segment_forked pid result more held
     else if number == EXEC then segment_started pid more held
-    else held
+    else segment_made pid (child_called number result more) held
 
 abbrev pub segments_told : ℕ → Record → (ℕ → Option ℕ) → ℕ → Option ℕ
 segments_told n (entry.Call pid number result more) held = segment_called n pid number result more held

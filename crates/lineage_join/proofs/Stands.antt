@@ -2,13 +2,14 @@
 use Rattle.std.proofs.Common.{◌≡◌, ℕ, ◌+◌, ◌-◌, ◌*◌, ◌/◌, ◌%◌, ◌<◌, ◌≤◌, ◌==◌, ◌&&◌, nat_lt, nat_le, Bool, true, false, cond, List, [], ◌∷◌, Option, Some, None, IsSome, IsTrue, option_and_then, refl, sym, ap, ap₂, subst, ◌∙◌, arith, true≢false, eqb-true}
 use Rattle.std.proofs.lemmas.Bool.Decides.{nat_tests}
 use Rattle.std.proofs.lemmas.Bool.{cond-true, cond-false}
+use Rattle.arn_base.specs.declared.records.Extra.{Extra}
 use Rattle.arn_base.specs.declared.records.Extra.TheVariants as extra
 use Rattle.arn_base.specs.declared.records.Record.{Record}
 use Rattle.arn_base.specs.declared.records.Record.TheVariants as entry
 use Rattle.arn_base.specs.declared.records.Start.{Start}
 use Rattle.parts_model.specs.declared.calls.TheConstants.{FORK}
 use Rattle.parts_model.specs.Replies.{is_success}
-use Rattle.acts_model.specs.Records.{event_len, plain_len}
+use Rattle.acts_model.specs.Records.{Child, child_called, child_forked, child_founded, event_len, plain_len, start_held}
 use Rattle.acts_model.specs.Transfers.{is_private}
 use Rattle.history_model.specs.Exchanges.{founded}
 use Rattle.lineage_model.specs.Flow.{At, Byte, StartRegister, StartSlot, StartMemory}
@@ -21,16 +22,25 @@ use Rattle.lineage_join.specs.Places.{start_at}
 use Rattle.lineage_join.specs.Waits.{from_taken, from_kind, kind_by}
 
 -- a fork that started a group has no byte of its own
-apart : (b s : Bool) (result : ℕ) → (b ≡ true → ⊥) → cond (b && s) (Some result) None ≡ None
-apart true s result h = absurd (h refl)
-apart false s result h = refl
+apart : (b s : Bool) (child : Child) → (b ≡ true → ⊥) → child_founded (cond (b && s) (Some child) None) ≡ None
+apart true s child h = absurd (h refl)
+apart false s child h = refl
+
+-- a child whose record doesn't hold how it begins starts none
+pub joins-none : (number result : ℕ) (more : Extra) → start_held more ≡ None → child_founded (child_called number result more) ≡ None
+joins-none number result more h = by_test ((number == FORK) && is_success result)
+  where
+    by_test : (b : Bool) → child_founded (cond b (Some (child_forked result more)) None) ≡ None
+    by_test true = ap (λ (o : Option Start). child_founded (Some (record { number = result; start = o }))) h
+    by_test false = refl
 
 fork-empty : (number result : ℕ) (start : Start) → 0 < plain_len number result (extra.Start start) → (number == FORK) ≡ true → ⊥
 fork-empty number result start h e =
     let none : 0 < 0 = subst (λ (n : ℕ). 0 < plain_len n result (extra.Start start)) (eqb-true number FORK e) h in omega arith
 
 pub founds-none : (e : Record) → 0 < event_len e → founded e ≡ None
-founds-none (entry.Call pid number result (extra.Start start)) h = apart (number == FORK) (is_success result) result (fork-empty number result start h)
+founds-none (entry.Call pid number result (extra.Start start)) h = apart (number == FORK) (is_success result) (child_forked result (extra.Start start)) (fork-empty number result start h)
+founds-none (entry.Call pid number result more) h = joins-none number result more refl
 founds-none _ h = refl
 
 is-below : (n m : ℕ) → n < m → nat_lt n m ≡ true

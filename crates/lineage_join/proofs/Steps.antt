@@ -26,15 +26,18 @@ use Rattle.lineage_join.specs.Waits.{from_taken, from_kind, from_wait, kind_by, 
 use Rattle.lineage_join.proofs.Comes.{found-also, nothing-also}
 use Rattle.lineage_join.proofs.Follow.{received-also}
 use Rattle.lineage_join.proofs.Rises.{none_in}
+use Rattle.lineage_join.proofs.Stands.{joins-none}
 use Rattle.lineage_join.proofs.Unfolds.{goes}
 
 -- neither a source nor an event that received bytes is a fork
 pub source-plain : (e : Record) → is_source e ≡ true → founded e ≡ None
 source-plain (entry.Call pid number result (extra.Start start)) h = absurd (true≢false (sym h))
+source-plain (entry.Call pid number result more) h = joins-none number result more refl
 source-plain _ h = refl
 
 pub given-plain : (e : Record) (give : Give) → give_of e ≡ Some give → founded e ≡ None
 given-plain (entry.Call pid number result (extra.Start start)) give h = absurd (none-some give h)
+given-plain (entry.Call pid number result more) give h = joins-none number result more refl
 given-plain _ give h = refl
 
 -- a byte with which a child begins is none from outside

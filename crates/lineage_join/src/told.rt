@@ -10,10 +10,10 @@ ghost use Rattle.lineage_model.specs.Joined as joined;
 ghost use Rattle.lineage_join.specs.Waits.{kind_by};
 
 use crate::wait::Kind;
-use acts_model::is_success;
-use arn_base::{Extra, Give, Origin, Record};
+use acts_model::{child_told, give_of};
+use arn_base::{Extra, Origin, Record};
 use history_index::Index;
-use parts_model::calls::{FORK, READ};
+use parts_model::calls::READ;
 use set_store::Item;
 
 /// So many origins are few: among them, one is looked for again and again.
@@ -49,18 +49,13 @@ pub fn is_source(entry: &Record) -> bool
     }
 }
 
-/// Whether an event is a fork that started a group.
+/// Whether an event made a child that started a group.
 fn founds(entry: &Record) -> bool
     ensures { result ≡ is_some (founded entry.now) }
 {
-    match entry {
-        Record::Call {
-            number,
-            result,
-            extra: Extra::Start(_),
-            ..
-        } => *number == FORK && is_success(*result),
-        _ => false,
+    match child_told(entry) {
+        Some(child) => child.start.is_some(),
+        None => false,
     }
 }
 
@@ -75,20 +70,6 @@ pub fn kind_at(entry: &Record) -> Kind
     ensures { result ≡ kind_by (founded entry.now) }
 {
     start_or_received(founds(entry))
-}
-
-/// What was received with its origins.
-fn give_of(entry: &Record) -> Option<&Give>
-    ensures { option_map (λ give. give.now) result ≡ records.give_of entry.now }
-{
-    match entry {
-        Record::Boot { give, .. } => Some(give),
-        Record::Call {
-            extra: Extra::Give(give),
-            ..
-        } => Some(give),
-        _ => None,
-    }
 }
 
 /// Whether an event received bytes, and these have few origins. How many are few is for speed alone.

@@ -14,9 +14,8 @@ use Rattle.parts_model.specs.Processes as table
 use Rattle.parts_model.specs.Tagged.{values, given}
 use Rattle.acts_model.specs.Acts.{Act, Receives, Starts, Forks, Founds, unborn, done, done_by, beginning_of}
 use Rattle.acts_model.specs.Bodies.{Body, View, body_at, view, seen, put}
-use Rattle.acts_model.specs.Moved as moved
 use Rattle.acts_model.specs.Moved.{KernelByte, FileByte, Event, Incoming}
-use Rattle.acts_model.specs.Records.{process_of, event_len, give_of}
+use Rattle.acts_model.specs.Records.{Child, child_start, process_of, event_len, give_of}
 use Rattle.acts_model.specs.Transfers as transfers
 use Rattle.acts_model.specs.Transfers.{Transfer, Holds, holds_of, transfer}
 use Rattle.arn_model.specs.Doing.{Doing}
@@ -27,8 +26,7 @@ use Rattle.arn_model.specs.Step.{Step, plain_step, event_step, after_act}
 use Rattle.arn_model.specs.Tells as tells
 use Rattle.arn_model.specs.Tells.{EventTells, StepTells, Runs, Happens, Boots, Adds, Types, Unplugs, ComesFrom}
 use Rattle.history_model.specs.Alone.{begin_inside}
-use Rattle.history_model.specs.Groups.{Groups, groups_told, group_forked}
-use Rattle.history_model.specs.Moments.{changed}
+use Rattle.history_model.specs.Groups.{Groups, group_made, groups_told}
 use Rattle.lineage_model.specs.Flow.{At, Byte, StartRegister, StartSlot, StartMemory, shown}
 use Rattle.lineage_model.specs.Joined.{is_source}
 use Rattle.replay_laws.specs.Heard.{begin_if, begin_by}
@@ -114,18 +112,18 @@ quiet-begins pid n holds e _ q h = h
 
 -- how the child begins that a record tells
 says-begins : (pid n : ℕ) (holds : Holds) (e : Record) (act : Act) → Says pid e act → BeginsIn (transfer pid n holds act) (Some (record { number = n; entry = e }))
-says-begins pid n holds e act (SaysFounds child start is success made) =
+says-begins pid n holds e act (SaysFounds child start is called made) =
     let E : Record = entry.Call pid number.FORK child (extra.Start start) in
     subst (λ (a : Act). BeginsIn (transfer pid n holds a) (Some (record { number = n; entry = e }))) (sym made) (
       start,
       refl,
       λ g.
           subst (λ (x : Record). begin_by g n x ≡ cond (child == g) (begin_inside g n x start ∷ []) []) (sym is)
-          (ap (λ (b : Bool). begin_if g child n E (cond b (Some start) None)) success),
+          (ap (λ (c : Option Child). begin_if g child n E (child_start c)) called),
     )
-says-begins pid n holds e act (SaysForks child more is success forked none made) =
+says-begins pid n holds e act (SaysForks child more is called made) =
     subst (λ (a : Act). BeginsIn (transfer pid n holds a) (Some (record { number = n; entry = e }))) (sym made)
-    (λ g. subst (λ (x : Record). begin_by g n x ≡ []) (sym is) (ap (begin_if g child n (entry.Call pid number.FORK child more)) none))
+    (λ g. subst (λ (x : Record). begin_by g n x ≡ []) (sym is) (ap (λ (c : Option Child). begin_if g child n (entry.Call pid number.FORK child more) (child_start c)) called))
 says-begins pid n holds e act (SaysOther same none own quiet) = quiet-begins pid n holds e act quiet (λ g. none g n)
 
 -- a child has a body
@@ -140,7 +138,7 @@ some-is x y e = cc
 
 -- what an event makes belongs to the group that acts, or to the one that starts
 event-makes : (event_at : ℕ → Option Record) (gs groups : Groups) (m : Machine) (pid : ℕ) (v : View) (d : Doing) (e : Record) → EventTells m pid v d e → Around event_at gs groups m (event_step m pid v d e) → HoldsIn gs (memories event_at gs) (length m.kernel.processes) pid v.body → Says pid e d.act → Makes gs (memories event_at gs) (length d.kernel.processes) m.events pid d.act
-event-makes event_at gs groups m pid v d e t a h (SaysFounds child start is success made) =
+event-makes event_at gs groups m pid v d e t a h (SaysFounds child start is called made) =
     let kid = founds-body m pid child v in
     let small : child ≤ length d.kernel.processes = a.later child kid.0 (ap (λ (x : Act). body_at (after_act m pid v x) child) made ∙ kid.1) in
     let fork = (subst (λ (x : Act). tells.ForksRightly (table.next_process m.kernel.processes) v x (tells.extra_in e)) made t.forks).0 in
@@ -148,24 +146,23 @@ event-makes event_at gs groups m pid v d e t a h (SaysFounds child start is succ
     subst (Makes gs (memories event_at gs) (length d.kernel.processes) m.events pid) (sym made) (
       a.settles child small
           ∙ (ap (λ (x : Record). groups_told x groups child) is
-          ∙ (ap (λ (b : Bool). cond b (changed groups child (Some child)) groups child) success
+          ∙ (ap (λ (c : Option Child). group_made pid c groups child) called
           ∙ ap (λ (b : Bool). cond b (Some child) (groups child)) (eq-eqb child child refl))),
       ap (option_and_then (memory_by gs)) a.there
-          ∙ (ap (memory_by gs) is ∙ ap (λ (b : Bool). memory_called gs pid child (cond b (Some start) None)) success),
+          ∙ (ap (memory_by gs) is ∙ ap (λ (c : Option Child). memory_called gs pid child (child_start c)) called),
       small,
       λ k. let same : h.group ≡ child = some-is h.group child (sym h.is ∙ k) in absurd (omega arith),
     )
-event-makes event_at gs groups m pid v d e t a h (SaysForks child more is success forked none made) =
+event-makes event_at gs groups m pid v d e t a h (SaysForks child more is called made) =
     let kid = forks-body m pid child v t.seen in
     let small : child ≤ length d.kernel.processes = a.later child kid.0 (ap (λ (x : Act). body_at (after_act m pid v x) child) made ∙ kid.1) in
     subst (Makes gs (memories event_at gs) (length d.kernel.processes) m.events pid) (sym made) (
       a.settles child small
           ∙ (ap (λ (x : Record). groups_told x groups child) is
-          ∙ (ap (λ (b : Bool). cond b (group_forked pid child more groups) groups child) success
-          ∙ (ap (λ (f : Groups). f child) (forked groups)
+          ∙ (ap (λ (c : Option Child). group_made pid c groups child) called
           ∙ (ap (λ (b : Bool). cond b (groups pid) (groups child)) (eq-eqb child child refl)
-          ∙ sym (a.settled pid (a.before pid v.body (seen-body m.bodies pid v t.seen))))))),
-      ap (option_and_then (memory_by gs)) a.there ∙ (ap (memory_by gs) is ∙ ap (memory_called gs pid child) none),
+          ∙ sym (a.settled pid (a.before pid v.body (seen-body m.bodies pid v t.seen)))))),
+      ap (option_and_then (memory_by gs)) a.there ∙ (ap (memory_by gs) is ∙ ap (λ (c : Option Child). memory_called gs pid child (child_start c)) called),
     )
 event-makes event_at gs groups m pid v d e t a h (SaysOther same none own quiet) =
     quiet-makes gs (memories event_at gs) (length d.kernel.processes) m.events pid d.act quiet (ap (option_and_then (memory_by gs)) a.there ∙ own gs)

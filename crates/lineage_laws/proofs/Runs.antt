@@ -11,7 +11,7 @@ use Rattle.parts_model.specs.Processes.{Processes}
 use Rattle.acts_model.specs.Acts.{Act, Forks, Founds}
 use Rattle.acts_model.specs.Bodies.{Body, body_at}
 use Rattle.acts_model.specs.Moved.{Event, is_instruction}
-use Rattle.acts_model.specs.Records.{is_event}
+use Rattle.acts_model.specs.Records.{Child, is_event}
 use Rattle.arn_model.specs.Kernel.{Kernel, Machine}
 use Rattle.arn_model.specs.Laws.{KeepsNumbers}
 use Rattle.arn_model.specs.Run.{within, unless_reached, events_of}
@@ -20,8 +20,7 @@ use Rattle.arn_model.specs.Step.{Step}
 use Rattle.arn_model.specs.Tells as tells
 use Rattle.arn_model.specs.Tells.{lives, StepTells, Runs, Happens, Boots, Adds, Types, Unplugs, Along}
 use Rattle.arn_model.specs.Turn.{after_steps}
-use Rattle.history_model.specs.Groups.{Groups, groups_told, groups_from, group_forked}
-use Rattle.history_model.specs.Moments.{changed}
+use Rattle.history_model.specs.Groups.{Groups, group_made, groups_told, groups_from}
 use Rattle.lineage_model.specs.Flow.{At}
 use Rattle.lineage_model.specs.Joined.{is_source}
 use Rattle.lineage_model.specs.Tracking.{EventByte, Tracked, alone_after}
@@ -42,17 +41,16 @@ groups_along (s ∷ steps) groups = groups_along steps (groups_by s.moved.inside
 
 -- a step gives no group to a process that was made before
 told-settled : (m : Machine) (pid : ℕ) (e : Record) (act : Act) (groups : Groups) (q : ℕ) → q ≤ length m.kernel.processes → ((child : ℕ) → ((act ≡ Founds child) ⊎ (act ≡ Forks child)) → child ≡ length m.kernel.processes + 1) → Says pid e act → groups_told e groups q ≡ groups q
-told-settled m pid e act groups q l new (SaysFounds child start is success made) =
+told-settled m pid e act groups q l new (SaysFounds child start is called made) =
     let n = new child (inl made) in
     ap (λ (x : Record). groups_told x groups q) is
-    ∙ (ap (λ (b : Bool). cond b (changed groups child (Some child)) groups q) success
+    ∙ (ap (λ (c : Option Child). group_made pid c groups q) called
     ∙ ap (λ (b : Bool). cond b (Some child) (groups q)) (ne_eqb q child (λ k. omega arith)))
-told-settled m pid e act groups q l new (SaysForks child more is success forked none made) =
+told-settled m pid e act groups q l new (SaysForks child more is called made) =
     let n = new child (inr made) in
     ap (λ (x : Record). groups_told x groups q) is
-    ∙ (ap (λ (b : Bool). cond b (group_forked pid child more groups) groups q) success
-    ∙ (ap (λ (f : Groups). f q) (forked groups)
-    ∙ ap (λ (b : Bool). cond b (groups pid) (groups q)) (ne_eqb q child (λ k. omega arith))))
+    ∙ (ap (λ (c : Option Child). group_made pid c groups q) called
+    ∙ ap (λ (b : Bool). cond b (groups pid) (groups q)) (ne_eqb q child (λ k. omega arith)))
 told-settled m pid e act groups q l new (SaysOther same none own quiet) = ap (λ (f : Groups). f q) (same groups)
 
 step-settled : (m : Machine) (s : Step) (groups : Groups) (q : ℕ) → StepTells m s → q ≤ length m.kernel.processes → groups_by s.moved.inside.event groups q ≡ groups q

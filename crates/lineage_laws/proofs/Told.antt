@@ -13,13 +13,11 @@ use Rattle.arn_base.specs.declared.records.Start.{Start}
 use Rattle.parts_model.specs.declared.calls.TheConstants as number
 use Rattle.parts_model.specs.Replies.{is_success}
 use Rattle.acts_model.specs.Acts.{Act, Returns, Receives, Gives, Starts, Forks, Founds, Shares, Leaves, Delivers, Exits, Dies}
-use Rattle.acts_model.specs.Records.{process_of, event_len, give_of}
+use Rattle.acts_model.specs.Records.{Child, child_called, child_forked, child_start, process_of, event_len, give_of, start_held}
 use Rattle.acts_model.specs.Told.{Kind, Exit, Fork, Exec, Wait, Sigreturn, Read, Write, Shm, Other, kind_of, fork_act, is_pipe_write, exec_act, wait_act, read_act, write_act, call_act, delivery_act, act_of}
 use Rattle.acts_model.specs.Views.{argument}
 use Rattle.arn_model.specs.Tells.{is_inner}
-use Rattle.history_model.specs.Alone.{call_start}
-use Rattle.history_model.specs.Groups.{Groups, group_forked, groups_told}
-use Rattle.history_model.specs.Moments.{changed}
+use Rattle.history_model.specs.Groups.{Groups, groups_told}
 use Rattle.lineage_model.specs.Joined.{is_reply, is_source}
 use Rattle.replay_laws.specs.Heard.{begin_by}
 
@@ -76,7 +74,7 @@ memory_called gs pid result None = gs pid
 memory_called gs pid result (Some start) = Some result
 
 abbrev pub memory_by : Groups → Record → Option ℕ
-memory_by gs (entry.Call pid n result more) = memory_called gs pid result (call_start n result more)
+memory_by gs (entry.Call pid n result more) = memory_called gs pid result (child_start (child_called n result more))
 memory_by gs other = option_and_then gs (process_of other)
 
 -- the act makes no child
@@ -85,20 +83,21 @@ IsQuiet (Forks child) = ⊥
 IsQuiet (Founds child) = ⊥
 IsQuiet act = Unit {0}
 
+-- there is this child
+abbrev pub one_child : ℕ → Option Start → Option Child
+one_child child start = Some (record { number = child; start = start })
+
 -- a record says that a child starts a group, that one joins its parent's, or that no process is made
 pub data Says (pid : ℕ) (e : Record) (act : Act) : Type 0 where
-  SaysFounds : (child : ℕ) (start : Start) → e ≡ entry.Call pid number.FORK child (extra.Start start) → is_success child ≡ true → act ≡ Founds child → Says pid e act
-  SaysForks : (child : ℕ) (more : Extra) → e ≡ entry.Call pid number.FORK child more → is_success child ≡ true
-      → ((groups : Groups) → group_forked pid child more groups ≡ changed groups child (groups pid)) → call_start number.FORK child more ≡ None
-      → act ≡ Forks child → Says pid e act
+  SaysFounds : (child : ℕ) (start : Start) → e ≡ entry.Call pid number.FORK child (extra.Start start) → child_called number.FORK child (extra.Start start) ≡ one_child child (Some start) → act ≡ Founds child → Says pid e act
+  SaysForks : (child : ℕ) (more : Extra) → e ≡ entry.Call pid number.FORK child more → child_called number.FORK child more ≡ one_child child None → act ≡ Forks child → Says pid e act
   SaysOther : ((groups : Groups) → groups_told e groups ≡ groups) → ((g n : ℕ) → begin_by g n e ≡ []) → ((gs : Groups) → memory_by gs e ≡ gs pid) → IsQuiet act → Says pid e act
 
-no-start : (n result : ℕ) (more : Extra) → ((n == number.FORK) && is_success result) ≡ false → call_start n result more ≡ None
-no-start n result (extra.Start start) h = ap (λ (b : Bool). cond b (Some start) None) h
-no-start n result _ h = refl
+no-child : (n result : ℕ) (more : Extra) → ((n == number.FORK) && is_success result) ≡ false → child_called n result more ≡ None
+no-child n result more h = ap (λ (b : Bool). cond b (Some (child_forked result more)) None) h
 
 other-says : (pid n result : ℕ) (more : Extra) (act : Act) → ((n == number.FORK) && is_success result) ≡ false → IsQuiet act → Says pid (entry.Call pid n result more) act
-other-says pid n result more act h1 h2 = grind (arith, nat_tests, memory_called, no-start)
+other-says pid n result more act h1 h2 = grind (arith, nat_tests, memory_called, no-child)
 
 if-quiet : (b : Bool) (a c : Act) → IsQuiet a → IsQuiet c → IsQuiet (cond b a c)
 if-quiet true a c h k = h
@@ -119,17 +118,20 @@ write-quiet : (cpu : Cpu) (result : ℕ) (more : Extra) → IsQuiet (write_act c
 write-quiet cpu result extra.Nothing = if-quiet (is_pipe_write result) (Gives (argument cpu 1) result result) (Returns result) tt tt
 write-quiet cpu result _ = tt
 
-joins-says : (pid result : ℕ) (more : Extra) → ((groups : Groups) → group_forked pid result more groups ≡ changed groups result (groups pid)) → call_start number.FORK result more ≡ None → (b : Bool) → is_success result ≡ b → Says pid (entry.Call pid number.FORK result more) (cond b (Forks result) (Returns result))
-joins-says pid result more g s true e = SaysForks result more refl e g s refl
-joins-says pid result more g s false e = other-says pid number.FORK result more (Returns result) e tt
+made-child : (result : ℕ) (more : Extra) (start : Option Start) → start_held more ≡ start → is_success result ≡ true → child_called number.FORK result more ≡ one_child result start
+made-child result more start h e = ap (λ (b : Bool). cond b (Some (child_forked result more)) None) e ∙ ap (one_child result) h
+
+joins-says : (pid result : ℕ) (more : Extra) → start_held more ≡ None → (b : Bool) → is_success result ≡ b → Says pid (entry.Call pid number.FORK result more) (cond b (Forks result) (Returns result))
+joins-says pid result more h true e = SaysForks result more refl (made-child result more None h e) refl
+joins-says pid result more h false e = other-says pid number.FORK result more (Returns result) e tt
 
 founds-says : (pid result : ℕ) (start : Start) → (b : Bool) → is_success result ≡ b → Says pid (entry.Call pid number.FORK result (extra.Start start)) (cond b (Founds result) (Returns result))
-founds-says pid result start true e = SaysFounds result start refl e refl
+founds-says pid result start true e = SaysFounds result start refl (made-child result (extra.Start start) (Some start) refl e) refl
 founds-says pid result start false e = other-says pid number.FORK result (extra.Start start) (Returns result) e tt
 
 fork-says : (pid result : ℕ) (more : Extra) → Says pid (entry.Call pid number.FORK result more) (fork_act result more)
 fork-says pid result (extra.Start start) = founds-says pid result start (is_success result) refl
-fork-says pid result more = joins-says pid result more (λ groups. refl) refl (is_success result) refl
+fork-says pid result more = joins-says pid result more refl (is_success result) refl
 
 -- a number isn't another
 isnt : (n a b : ℕ) → n ≡ a → (a == b) ≡ false → (n == b) ≡ false

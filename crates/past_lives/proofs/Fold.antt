@@ -14,13 +14,13 @@ use Rattle.parts_model.specs.declared.limits.TheConstants.{WINDOW_LEN}
 use Rattle.acts_model.specs.Acts.{Delivers, Dies, Faults, beginning_in, unborn}
 use Rattle.acts_model.specs.Bodies.{View, body_at, put, seen}
 use Rattle.acts_model.specs.Disagreement.{Wrong, wrong_with}
-use Rattle.acts_model.specs.Records.{life_told, lives_after}
+use Rattle.acts_model.specs.Records.{child_forked, life_told, lives_after}
 use Rattle.acts_model.specs.Told.{act_of, call_act, delivery_act, kind_of}
 use Rattle.acts_model.specs.Views.{stands_at}
 use Rattle.history_model.specs.Alone.{Own, Made, Makes, Standing, act_done, after_boot, after_last, after_record, after_signal, after_slice, at_first, begins, boots, happens, made_if, replayed, settled, unless_wrong}
 use Rattle.history_model.specs.Alone as alone
 use Rattle.history_model.specs.Broken.{Behind, Nowhere, ASlice, ADelivery, behind, behind_from, behind_record, behind_signal, broken_from, child_in, first_broken, greatest, greatest_after, has_blocks_wrong, is_behind, misnumbers, start_in}
-use Rattle.history_model.specs.Groups.{Groups, group_forked, groups_from, groups_told, is_number}
+use Rattle.history_model.specs.Groups.{Groups, group_made, groups_from, groups_told, is_number}
 use Rattle.history_model.specs.Moments.{Numbered, changed, events_from, if_happened, lives_by, segments_by, segments_told, total}
 use Rattle.history_model.specs.Names.{is_boot, is_booted}
 use Rattle.window_laws.specs.Blocks.{HasWholeBlocks}
@@ -60,7 +60,7 @@ founded-later n m groups h1 h2 = grind (arith, nat_tests)
 changed-founded : (n : ℕ) (groups : Groups) (child : ℕ) (o : Option ℕ) → IfSome o (λ m. m ≤ n) → AreFounded n groups → AreFounded n (changed groups child o)
 changed-founded n groups child o h1 h2 = grind (arith, nat_tests)
 
-forked-founded : (n pid child : ℕ) (more : Extra) (groups : Groups) → child ≤ n → AreFounded n groups → AreFounded n (group_forked pid child more groups)
+forked-founded : (n pid child : ℕ) (more : Extra) (groups : Groups) → child ≤ n → AreFounded n groups → AreFounded n (group_made pid (Some (child_forked child more)) groups)
 forked-founded n pid child (extra.Start start) groups le h = changed-founded n groups child (Some child) le h
 forked-founded n pid child more groups le h = changed-founded n groups child (groups pid) (h pid) h
 

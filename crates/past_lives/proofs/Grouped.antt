@@ -6,9 +6,9 @@ use Rattle.std.proofs.lemmas.Option.{same_Some}
 use Rattle.arn_base.specs.declared.records.Extra.{Extra}
 use Rattle.arn_base.specs.declared.records.Record.{Record}
 use Rattle.arn_base.specs.declared.records.Record.TheVariants as entry
-use Rattle.acts_model.specs.Records.{EndsLife, BeginsLife, life_told, lives_after}
+use Rattle.acts_model.specs.Records.{EndsLife, BeginsLife, child_forked, life_told, lives_after}
 use Rattle.history_model.specs.Broken.{Behind, behind, behind_from, behind_record, behind_signal, broken_from, first_broken, is_behind}
-use Rattle.history_model.specs.Groups.{Groups, group_forked, groups_from, groups_told}
+use Rattle.history_model.specs.Groups.{Groups, group_made, groups_from, groups_told}
 use Rattle.history_model.specs.Moments.{Numbered, changed, events_from, if_happened, lives_at, lives_by}
 use Rattle.past_lives.proofs.Fold.{lived, lived-append, lives-all}
 use Rattle.past_lives.proofs.Records.{Stands, follows}
@@ -22,10 +22,10 @@ caller (entry.Call pid number result more) = Some pid
 caller other = None
 
 -- groups stay, and a child has one if its parent has
-forked-has : (pid child : ℕ) (more : Extra) (groups : Groups) (p : ℕ) → Has groups pid → (p ≡ child → ⊥) → Has groups p → Has (group_forked pid child more groups) p
+forked-has : (pid child : ℕ) (more : Extra) (groups : Groups) (p : ℕ) → Has groups pid → (p ≡ child → ⊥) → Has groups p → Has (group_made pid (Some (child_forked child more)) groups) p
 forked-has pid child more groups p h1 h2 h3 = grind (arith, nat_tests, eqb-true)
 
-child-has : (pid child : ℕ) (more : Extra) (groups : Groups) (p : ℕ) → Has groups pid → p ≡ child → Has (group_forked pid child more groups) p
+child-has : (pid child : ℕ) (more : Extra) (groups : Groups) (p : ℕ) → Has groups pid → p ≡ child → Has (group_made pid (Some (child_forked child more)) groups) p
 child-has pid child more groups p h1 h2 = grind (arith, nat_tests, eqb-false)
 
 changed-has : (groups : Groups) (k n p : ℕ) → Has groups p → Has (changed groups k (Some n)) p

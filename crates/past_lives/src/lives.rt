@@ -1,15 +1,14 @@
 // Whether a process lives.
 ghost use Rattle.std.specs.Prelude.{◌≡◌};
-ghost use Rattle.acts_model.specs.Records.{call_life, life_told};
+ghost use Rattle.acts_model.specs.Records.{life_told};
 ghost use Rattle.history_index.specs.Indexes.{Indexes};
 ghost use Rattle.history_model.specs.Moments.{lives_at};
 ghost use Rattle.past_lives.specs.Happened as told;
 
 use crate::events::happened;
-use acts_model::is_success;
+use acts_model::{LifeTold, life_told};
 use arn_base::Record;
 use history_index::Index;
-use parts_model::calls::{EXIT, FORK};
 
 /// A process that begins or ends, and whether it lives from then on.
 #[derive(Clone, Copy)]
@@ -18,49 +17,17 @@ pub struct Life {
     pub lives: bool,
 }
 
-fn told_by_call(own: u32, number: u64, answer: u64) -> Option<Life>
-    ensures { result ≡ told.change_in (call_life own number answer) }
-{
-    if number == EXIT {
-        Some(Life {
-            pid: u64::from(own),
-            lives: false,
-        })
-    } else if number == FORK && is_success(answer) {
-        Some(Life {
-            pid: answer,
-            lives: true,
-        })
-    } else {
-        None
-    }
-}
-
 /// Which process begins or ends at an event, if one does.
 pub fn told_by(entry: &Record) -> Option<Life>
     ensures { result ≡ told.change_in (life_told entry.now) }
 {
-    match entry {
-        Record::Boot { .. } => Some(Life {
-            pid: 1,
-            lives: true,
-        }),
-        Record::Signal {
-            pid,
-            handler: 0,
-            ..
-        }
-        | Record::End { pid, .. } => Some(Life {
-            pid: u64::from(*pid),
+    match life_told(entry) {
+        LifeTold::Begins(pid) => Some(Life { pid, lives: true }),
+        LifeTold::Ends(pid) => Some(Life {
+            pid: u64::from(pid),
             lives: false,
         }),
-        Record::Call {
-            pid,
-            number,
-            result,
-            ..
-        } => told_by_call(*pid, *number, *result),
-        _ => None,
+        LifeTold::NoLife => None,
     }
 }
 

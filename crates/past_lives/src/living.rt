@@ -9,10 +9,9 @@ ghost use Rattle.past_lives.specs.Members as members;
 
 use crate::events::happened;
 use crate::lives::{Life, told_by};
-use acts_model::is_success;
+use acts_model::child_told;
 use arn_base::{NoMemory, Numbers, Record};
 use history_index::Index;
-use parts_model::calls::FORK;
 use std::alloc::Global;
 
 // The greatest number of a process, with one record more.
@@ -21,9 +20,10 @@ fn greatest_after(entry: &Record, before: u64) -> u64
 {
     match entry {
         Record::Boot { .. } if before < 1 => 1,
-        Record::Call { number, result, .. }
-            if *number == FORK && is_success(*result) && before < *result => { *result }
-        _ => before,
+        _ => match child_told(entry) {
+            Some(child) if before < child.number => child.number,
+            _ => before,
+        },
     }
 }
 

@@ -1,14 +1,15 @@
 // Which segment a process holds.
-ghost use Rattle.std.specs.Prelude.{◌≡◌, ℕ, Option};
+ghost use Rattle.std.specs.Prelude.{◌≡◌, ℕ, Option, option_map};
+ghost use Rattle.acts_model.specs.Seen.{child_seen};
 ghost use Rattle.history_index.specs.Indexes.{Indexes};
 ghost use Rattle.history_model.specs.Moments as moments;
 ghost use Rattle.past_lives.specs.Happened.{held_by};
 
 use crate::events::happened;
-use acts_model::is_success;
+use acts_model::{ChildTold, child_called};
 use arn_base::{Extra, Record};
 use history_index::Index;
-use parts_model::calls::{EXEC, FORK, SHM};
+use parts_model::calls::{EXEC, SHM};
 
 /// Where a process has its segment from, at an event.
 #[derive(Clone, Copy)]
@@ -19,16 +20,16 @@ pub enum Source {
     Holds(Option<u64>),
 }
 
-fn at_fork(own: u32, child: u64, extra: &Extra, pid: u32) -> Source
-    ensures { (held : ℕ → Option ℕ) →
-        held_by result held ≡ moments.segment_forked own child extra.now held pid }
+fn at_child(own: u32, child: Option<ChildTold<'_>>, pid: u32) -> Source
+    ensures { (held : ℕ → Option ℕ) → held_by result held ≡
+        moments.segment_made own (option_map child_seen child.entry) held pid }
 {
-    if u64::from(pid) != child {
-        return Source::Process(pid);
-    }
-    match extra {
-        Extra::Start(_) => Source::Holds(None),
-        _ => Source::Process(own),
+    match child {
+        Some(child) if u64::from(pid) == child.number => match child.start {
+            Some(_) => Source::Holds(None),
+            None => Source::Process(own),
+        },
+        _ => Source::Process(pid),
     }
 }
 
@@ -52,12 +53,10 @@ fn at_call(event: u64, own: u32, number: u64, answer: u64, extra: &Extra, pid: u
         } else {
             Source::Process(pid)
         }
-    } else if number == FORK && is_success(answer) {
-        at_fork(own, answer, extra, pid)
     } else if number == EXEC {
         at_exec(own, extra, pid)
     } else {
-        Source::Process(pid)
+        at_child(own, child_called(number, answer, extra), pid)
     }
 }
 

@@ -1,17 +1,17 @@
 -- The groups of processes are those of a history, where no record is broken.
 use Rattle.std.proofs.Common.{◌≡◌, ◌≢◌, ℕ, zero, suc, ◌+◌, ◌<◌, ◌≤◌, ◌==◌, ◌&&◌, nat_lt, length, not, max, Bool, true, false, if◌then◌else◌, List, [], ◌∷◌, ◌++◌, filter, Contains, Option, Some, None, IfSome, option_and_then, refl, sym, ap, subst, ◌∙◌, arith, eqb-true, ne_eqb, ltb-true, ltb-false}
 use Rattle.std.specs.List.{range_with_len}
+use Rattle.std.specs.Option.{option_map_or}
 use Rattle.arn_base.specs.declared.records.Extra.{Extra}
-use Rattle.arn_base.specs.declared.records.Extra.TheVariants as extra
 use Rattle.arn_base.specs.declared.records.Record.{Record}
 use Rattle.arn_base.specs.declared.records.Record.TheVariants as entry
 use Rattle.parts_model.specs.declared.calls.TheConstants.{FORK}
 use Rattle.parts_model.specs.Replies.{is_success}
-use Rattle.acts_model.specs.Records.{process_of}
+use Rattle.acts_model.specs.Records.{child_forked, child_number, is_founder, process_of}
 use Rattle.history_index.specs.Lookups.{groups_in}
 use Rattle.history_model.specs.Broken.{broken_from, child_in, first_broken, greatest, greatest_after, greatest_from, misnumbers}
 use Rattle.history_model.specs.Events.{event_at}
-use Rattle.history_model.specs.Groups.{Groups, event_group, group_forked, group_of, groups_from, groups_told, is_number}
+use Rattle.history_model.specs.Groups.{Groups, event_group, group_made, group_of, groups_from, groups_told, is_number}
 use Rattle.history_model.specs.Moments.{changed}
 use Rattle.query_engine.proofs.Checks.{goes-on}
 
@@ -54,13 +54,8 @@ starts-own more groups child above below = record { own = ap (λ (b : Bool). if 
 below-ne : (g child : ℕ) → g < child → g ≢ child
 below-ne g child less same = omega arith
 
-forked-founded : (most pid child : ℕ) (more : Extra) (groups : Groups) → child ≡ most + 1 → AreFounded most groups → AreFounded (max most child) (group_forked pid child more groups)
-forked-founded most pid child (extra.Start start) groups is all =
-    changed-founded most (max most child) groups child (Some child) (omega arith)
-    (λ g f. founded-later most (max most child) groups child g (Some child) (omega arith) (below-ne g child (let low = f.below in omega arith)) f)
-    (starts-own (max most child) groups child (omega arith) (omega arith)) all
-forked-founded most pid child more groups is all =
-    changed-founded most (max most child) groups child (groups pid) (omega arith) later (by_group (groups pid) (all pid)) all
+forked-founded : (most pid child : ℕ) (more : Extra) (groups : Groups) → child ≡ most + 1 → AreFounded most groups → AreFounded (max most child) (group_made pid (Some (child_forked child more)) groups)
+forked-founded most pid child more groups is all = by_test (is_founder (child_forked child more))
   where
     later : (g : ℕ) → IsFounded most groups g → IsFounded (max most child) (changed groups child (groups pid)) g
     later g f = founded-later most (max most child) groups child g (groups pid) (omega arith) (below-ne g child (let low = f.below in omega arith)) f
@@ -68,6 +63,13 @@ forked-founded most pid child more groups is all =
     by_group : (q : Option ℕ) → IfSome q (IsFounded most groups) → IfSome q (IsFounded (max most child) (changed groups child (groups pid)))
     by_group None h = tt
     by_group (Some g) h = later g h
+
+    by_test : (b : Bool) → AreFounded (max most child) (changed groups child (if b then Some child else groups pid))
+    by_test true =
+        changed-founded most (max most child) groups child (Some child) (omega arith)
+        (λ g f. founded-later most (max most child) groups child g (Some child) (omega arith) (below-ne g child (let low = f.below in omega arith)) f)
+        (starts-own (max most child) groups child (omega arith) (omega arith)) all
+    by_test false = changed-founded most (max most child) groups child (groups pid) (omega arith) later (by_group (groups pid) (all pid)) all
 
 un-not : (b : Bool) → not b ≡ false → b ≡ true
 un-not true h = refl
@@ -77,7 +79,8 @@ called-founded : (before : List Record) (pid number result : ℕ) (more : Extra)
     → AreFounded (greatest_after (entry.Call pid number result more) (greatest before)) (groups_told (entry.Call pid number result more) groups)
 called-founded before pid number result more groups m all = by_test ((number == FORK) && is_success result) m
   where
-    by_test : (b : Bool) → misnumbers before (if b then Some result else None) ≡ false → AreFounded (if b then max (greatest before) result else greatest before) (if b then group_forked pid result more groups else groups)
+    by_test : (b : Bool) → misnumbers before (child_number (if b then Some (child_forked result more) else None)) ≡ false
+        → AreFounded (option_map_or (max (greatest before)) (child_number (if b then Some (child_forked result more) else None)) (greatest before)) (group_made pid (if b then Some (child_forked result more) else None) groups)
     by_test true k = forked-founded (greatest before) pid result more groups (eqb-true result (greatest before + 1) (un-not (result == greatest before + 1) k)) all
     by_test false k = all
 

@@ -4,27 +4,26 @@ use Rattle.std.proofs.lemmas.Bool.Decides.{nat_tests}
 use Rattle.std.proofs.lemmas.Bool.{and_parts, eqb-true}
 use Rattle.std.proofs.lemmas.Option.{none-some, same_Some}
 use Rattle.arn_base.specs.declared.records.Extra.{Extra}
-use Rattle.arn_base.specs.declared.records.Extra.TheVariants as extra
 use Rattle.arn_base.specs.declared.records.Record.{Record}
 use Rattle.arn_base.specs.declared.records.Record.TheVariants as entry
 use Rattle.arn_base.specs.declared.records.Start.{Start}
-use Rattle.rv64_model.specs.Instruction.{Effect, Next, Call, End}
+use Rattle.rv64_model.specs.Instruction.{Effect, Next}
 use Rattle.parts_model.specs.declared.calls.TheConstants.{FORK}
 use Rattle.parts_model.specs.Replies.{is_success}
 use Rattle.acts_model.specs.Acts.{Act, unborn}
 use Rattle.acts_model.specs.Bodies.{View, put, seen}
 use Rattle.acts_model.specs.Disagreement.{Wrong, wrong_with}
-use Rattle.acts_model.specs.Records.{is_event, process_of}
+use Rattle.acts_model.specs.Records.{child_called, child_founded, child_forked, child_number, child_start, is_event, is_founder, process_of, start_held}
 use Rattle.acts_model.specs.Told.{act_of}
 use Rattle.acts_model.specs.Transfers.{holds_of, transfer, instr_transfer}
 use Rattle.acts_model.specs.Views.{stands_at}
 use Rattle.history_model.specs.Alone as model
-use Rattle.history_model.specs.Alone.{Own, Made, Makes, Fails, Slice, Standing, act_done, after_boot, after_last, after_record, after_signal, after_slice, and_then, at_first, begins_by, begins_if, boots, call_start, ends_slice, happens, made_if, no_instruction, plain_by, plain_in, plain_or, plains, record_done, record_seen, replayed, settled, slice_of, unless_wrong}
+use Rattle.history_model.specs.Alone.{Own, Made, Makes, Fails, Slice, Standing, act_done, after_boot, after_last, after_record, after_signal, after_slice, and_then, at_first, begins_by, begins_if, boots, ends_slice, happens, made_if, no_instruction, plain_by, plain_in, plain_or, plains, record_done, record_seen, replayed, settled, slice_of, unless_wrong}
 use Rattle.history_model.specs.Broken.{broken_from, first_broken, greatest, misnumbers}
 use Rattle.history_model.specs.Events.{event_at, how_many}
-use Rattle.history_model.specs.Exchanges.{call_founded, founded}
+use Rattle.history_model.specs.Exchanges.{founded}
 use Rattle.history_model.specs.Groups.{Groups, groups_told, groups_from, group_of, event_group, is_number}
-use Rattle.query_laws.proofs.Found.{AreFounded, Stands, follows, numbered, nobody}
+use Rattle.query_laws.proofs.Found.{AreFounded, Stands, child_if, follows, numbered, nobody}
 use Rattle.query_laws.proofs.Decoded.{NextReads, stands-reads}
 use Rattle.query_laws.proofs.Heard.{State, act-by, act-runs, quiet-state, event-state, later-state}
 use Rattle.query_laws.proofs.Links.{number-is}
@@ -118,15 +117,19 @@ module _ (entries : List Record) (g : ℕ) where
       (plains-ends slice.event slice 0 left own s) (λ o k. happens-ends slice.pid slice.event e o owns k)
 
   -- the group begins, or doesn't
-  start-founds : (b : Bool) (start found : Start) (result : ℕ) → (if b then Some start else None) ≡ Some found → (if b then Some result else None) ≡ Some result
-  start-founds true start found result h = refl
-  start-founds false start found result h = absurd (none-some found h)
+  start-founds : (o : Option Start) (start : Start) (result : ℕ) → o ≡ Some start → child_founded (Some (record { number = result; start = o })) ≡ Some result
+  start-founds (Some found) start result h = refl
+  start-founds None start result h = absurd (none-some start h)
 
-  call-founds : (pid number result : ℕ) (more : Extra) (start : Start) → call_start number result more ≡ Some start → call_founded number result more ≡ Some result
-  call-founds pid number result more start h1 = grind (arith, nat_tests, none-some, start-founds)
+  call-founds : (pid number result : ℕ) (more : Extra) (start : Start) → child_start (child_called number result more) ≡ Some start → child_founded (child_called number result more) ≡ Some result
+  call-founds pid number result more start h = by_test ((number == FORK) && is_success result) h
+    where
+      by_test : (b : Bool) → child_start (child_if b result more) ≡ Some start → child_founded (child_if b result more) ≡ Some result
+      by_test true is = start-founds (start_held more) start result is
+      by_test false is = absurd (none-some start is)
 
-  begins_if-ends : (Q : Own → Type 0) (event pid number result : ℕ) (more : Extra) (own : Own) (o : Option Start) → call_start number result more ≡ o → Q own
-      → ((start : Start) → call_founded number result more ≡ Some g → Q (model.begins g event (entry.Call pid number result more) start own))
+  begins_if-ends : (Q : Own → Type 0) (event pid number result : ℕ) (more : Extra) (own : Own) (o : Option Start) → child_start (child_called number result more) ≡ o → Q own
+      → ((start : Start) → child_founded (child_called number result more) ≡ Some g → Q (model.begins g event (entry.Call pid number result more) start own))
       → Ends Q (begins_if g result event (entry.Call pid number result more) o own)
   begins_if-ends Q event pid number result more own o h1 h2 h3 = grind (arith, nat_tests, call-founds, eqb-true)
 
@@ -197,14 +200,17 @@ module _ (entries : List Record) (g : ℕ) where
     passes is same = reached-by (record t { events = t.events + 1 }) (one-more is) (sym same) (ends-ends (Made-to t.events) (Made-to (t.events + 1)) t.made r.made (later t.events))
 
   child-apart : (before : List Record) (pid number result : ℕ) (more : Extra) (groups : Groups) → Stands before (entry.Call pid number result more) → AreFounded groups (greatest before)
-      → is_number g (groups pid) ≡ true → call_founded number result more ≡ Some g → ⊥
-  child-apart before pid number result (extra.Start start) groups s f is founds = by-test ((number == FORK) && is_success result) s.child founds
+      → is_number g (groups pid) ≡ true → child_founded (child_called number result more) ≡ Some g → ⊥
+  child-apart before pid number result more groups s f is founds = by-test ((number == FORK) && is_success result) (is_founder (child_forked result more)) s.child refl founds
     where
-      by-test : (b : Bool) → misnumbers before (if b then Some result else None) ≡ false → (if b then Some result else None) ≡ Some g → ⊥
-      by-test true child made =
-          let high = (f pid g (number-is g (groups pid) is)).high in let new = numbered before result child in let e = same_Some result g made in omega (arith, high, new, e)
-      by-test false child made = none-some g made
-  child-apart before pid number result _ groups s f is founds = none-some g founds
+      by-test : (b c : Bool) → misnumbers before (child_number (child_if b result more)) ≡ false → is_founder (child_forked result more) ≡ c → child_founded (child_if b result more) ≡ Some g → ⊥
+      by-test true true child starts made =
+          let high = (f pid g (number-is g (groups pid) is)).high in
+          let new = numbered before result child in
+          let e = same_Some result g (sym (ap (λ (t : Bool). if t then Some result else None) starts) ∙ made) in
+          omega (arith, high, new, e)
+      by-test true false child starts made = none-some g (sym (ap (λ (t : Bool). if t then Some result else None) starts) ∙ made)
+      by-test false c child starts made = none-some g made
 
   record-reached : (until : ℕ) (before rest : List Record) (e : Record) → entries ≡ before ++ e ∷ rest → Stands before e → broken_from (before ++ e ∷ []) rest ≡ None → (t : Standing) → Reached before t → Reached (before ++ e ∷ []) (after_record g until t e)
   record-reached until before rest (entry.Slice pid ran) all stands follow t r =

@@ -19,7 +19,7 @@ use Rattle.parts_model.specs.declared.limits.TheConstants.{BLOCK_LEN}
 use Rattle.acts_model.specs.Acts.{Founds, Returns, beginning_of, start_of}
 use Rattle.acts_model.specs.Bodies.{View}
 use Rattle.acts_model.specs.Moved.{Event}
-use Rattle.acts_model.specs.Records.{is_event}
+use Rattle.acts_model.specs.Records.{child_forked, child_number, is_event}
 use Rattle.acts_model.specs.Told.{call_act, kind_of}
 use Rattle.arn_model.specs.Doing.{Doing}
 use Rattle.arn_model.specs.Kernel.{Machine, at_first}
@@ -57,7 +57,7 @@ fork-act number result cpu start is success =
 call-whole : (m : Machine) (pid number result p : ℕ) (v : View) (d : Doing) (more : Extra) → EventTells m p v d (entry.Call pid number result more) → misplaces_start (entry.Call pid number result more) ≡ false → HasWholeBlocks (entry.Call pid number result more)
 call-whole m pid number result p v d (extra.Start start) tells placed = by-test ((number == FORK) && is_success result) refl placed
   where
-    by-test : (b : Bool) → ((number == FORK) && is_success result) ≡ b → (true && not (is_some (if b then Some result else None))) ≡ false → AreWhole start.blocks
+    by-test : (b : Bool) → ((number == FORK) && is_success result) ≡ b → (true && not (is_some (child_number (if b then Some (child_forked result (extra.Start start)) else None)))) ≡ false → AreWhole start.blocks
     by-test b h1 h2 = grind (arith, nat_tests, and_parts, same_Some, fork-act, start-of, true≢false)
 call-whole m pid number result p v d extra.Nothing tells placed = tt
 call-whole m pid number result p v d _ tells placed = tt

@@ -3,16 +3,16 @@ use Rattle.std.proofs.Common.{◌≡◌, ◌⊎◌, inl, inr, ℕ, ◌+◌, ◌<
 use Rattle.std.proofs.lemmas.Bool.Decides.{nat_tests}
 use Rattle.std.proofs.lemmas.Bool.Decides.{eqb_tells}
 use Rattle.std.proofs.lemmas.Option.{none-some, same_Some, option_and_then_some}
+use Rattle.std.specs.Option.{option_map_or}
 use Rattle.arn_base.specs.declared.records.Extra.{Extra}
-use Rattle.arn_base.specs.declared.records.Extra.TheVariants as extra
 use Rattle.arn_base.specs.declared.records.Record.{Record}
 use Rattle.arn_base.specs.declared.records.Record.TheVariants as entry
 use Rattle.parts_model.specs.declared.calls.TheConstants.{FORK}
 use Rattle.parts_model.specs.Replies.{is_success}
-use Rattle.acts_model.specs.Records.{give_of, process_of}
+use Rattle.acts_model.specs.Records.{Child, child_forked, child_number, give_of, is_founder, process_of}
 use Rattle.history_model.specs.Broken.{child_in, greatest, greatest_from, greatest_after, misnumbers, cant_follow, comes_wrong, lacks_process, lacks_slice, are_origins, has_blocks_wrong, start_in, misplaces_start, broken_from, first_broken}
 use Rattle.history_model.specs.Events.{event_at}
-use Rattle.history_model.specs.Groups.{Groups, group_forked, groups_told, groups_from, group_of, is_number, event_group}
+use Rattle.history_model.specs.Groups.{Groups, group_made, groups_told, groups_from, group_of, is_number, event_group}
 use Rattle.history_model.specs.Moments.{changed}
 use Rattle.history_index.specs.Lookups.{groups_in, processes_in}
 use Rattle.query_laws.proofs.Links.{is-number}
@@ -115,16 +115,23 @@ joins-one groups most later c p f new high pid g is =
     below : g ≤ most → g ≡ c → ⊥
     below low e = omega (arith, low, e, new)
 
-forks-one : (groups : Groups) (most later pid child : ℕ) (more : Extra) → AreFounded groups most → child ≡ most + 1 → most ≤ later → child ≤ later → AreFounded (group_forked pid child more groups) later
-forks-one groups most later pid child (extra.Start start) f new more high = founds-one groups most later child f more (omega (arith, new)) high
-forks-one groups most later pid child _ f new more high = joins-one groups most later child pid f new high
+forks-one : (groups : Groups) (most later pid child : ℕ) (more : Extra) → AreFounded groups most → child ≡ most + 1 → most ≤ later → child ≤ later → AreFounded (group_made pid (Some (child_forked child more)) groups) later
+forks-one groups most later pid child more f new above high = by_test (is_founder (child_forked child more))
+  where
+    by_test : (b : Bool) → AreFounded (changed groups child (if b then Some child else groups pid)) later
+    by_test true = founds-one groups most later child f above (omega (arith, new)) high
+    by_test false = joins-one groups most later child pid f new high
 
 pub numbered : (before : List Record) (child : ℕ) → misnumbers before (Some child) ≡ false → child ≡ greatest before + 1
 numbered before child h =
     elim (eqb_tells child (greatest before + 1)) [ inl is ↦ is.1 | inr apart ↦ absurd (true≢false (rw apart.0 at h)) ]
 
-calls-one : (before : List Record) (groups : Groups) (pid result : ℕ) (more : Extra) (b : Bool) → misnumbers before (if b then Some result else None) ≡ false → AreFounded groups (greatest before)
-    → AreFounded (if b then group_forked pid result more groups else groups) (if b then max (greatest before) result else greatest before)
+-- a child where the test holds
+abbrev pub child_if : Bool → ℕ → Extra → Option Child
+child_if b result more = if b then Some (child_forked result more) else None
+
+calls-one : (before : List Record) (groups : Groups) (pid result : ℕ) (more : Extra) (b : Bool) → misnumbers before (child_number (child_if b result more)) ≡ false → AreFounded groups (greatest before)
+    → AreFounded (group_made pid (child_if b result more) groups) (option_map_or (max (greatest before)) (child_number (child_if b result more)) (greatest before))
 calls-one before groups pid result more true h f =
     forks-one groups (greatest before) (max (greatest before) result) pid result more f (numbered before result h) (omega arith) (omega arith)
 calls-one before groups pid result more false h f = f

@@ -1,22 +1,31 @@
 -- A group that a fork founds is one of the groups.
-use Rattle.std.proofs.Common.{◌≡◌, inl, inr, ℕ, ◌++◌, List, [], ◌∷◌, Some, None, option_and_then, refl, ap, ◌∙◌, arith, Contains}
+use Rattle.std.proofs.Common.{◌≡◌, inl, inr, ℕ, ◌==◌, ◌&&◌, ◌++◌, Bool, true, false, if◌then◌else◌, List, [], ◌∷◌, Some, None, option_and_then, refl, ap, sym, ◌∙◌, arith, Contains}
 use Rattle.std.proofs.lemmas.Bool.Decides.{nat_tests}
 use Rattle.std.proofs.lemmas.Option.{none-some, same_Some, option_and_then_some}
 use Rattle.arn_base.specs.declared.records.Extra.{Extra}
 use Rattle.arn_base.specs.declared.records.Record.{Record}
-use Rattle.acts_model.specs.Records.{is_event}
+use Rattle.parts_model.specs.declared.calls.TheConstants.{FORK}
+use Rattle.parts_model.specs.Replies.{is_success}
+use Rattle.acts_model.specs.Records.{child_called, child_forked, child_founded, is_event, is_founder}
 use Rattle.history_index.specs.Lookups.{groups_in}
 use Rattle.history_model.specs.Broken.{broken_from, first_broken, greatest}
 use Rattle.history_model.specs.Events.{events, event_at}
-use Rattle.history_model.specs.Exchanges.{call_founded, founded}
-use Rattle.history_model.specs.Groups.{Groups, group_called, groups_from, groups_told}
-use Rattle.query_laws.proofs.Found.{AreFounded, changed-at, follows, nobody, process-group}
+use Rattle.history_model.specs.Exchanges.{founded}
+use Rattle.history_model.specs.Groups.{Groups, group_made, groups_from, groups_told}
+use Rattle.query_laws.proofs.Found.{AreFounded, changed-at, child_if, follows, nobody, process-group}
 use Rattle.query_laws.proofs.Lists.{head-or-tail, in-kept, none-in}
 use Rattle.query_laws.proofs.Origins.{got-in}
 use Rattle.query_laws.proofs.Settled.{Unbooted, founded-push, settled-group, unbooted-push}
 
-called-founds : (pid number result g : ℕ) (more : Extra) (groups : Groups) → call_founded number result more ≡ Some g → group_called pid number result more groups g ≡ Some g
-called-founds pid number result g more groups h1 = grind (arith, nat_tests, changed-at, none-some, same_Some)
+called-founds : (pid number result g : ℕ) (more : Extra) (groups : Groups) → child_founded (child_called number result more) ≡ Some g → group_made pid (child_called number result more) groups g ≡ Some g
+called-founds pid number result g more groups founds = by_test ((number == FORK) && is_success result) (is_founder (child_forked result more)) refl founds
+  where
+    by_test : (b c : Bool) → is_founder (child_forked result more) ≡ c → child_founded (child_if b result more) ≡ Some g → group_made pid (child_if b result more) groups g ≡ Some g
+    by_test false c starts is = absurd (none-some g is)
+    by_test true false starts is = absurd (none-some g (sym (ap (λ (t : Bool). if t then Some result else None) starts) ∙ is))
+    by_test true true starts is =
+        let same = same_Some result g (sym (ap (λ (t : Bool). if t then Some result else None) starts) ∙ is) in
+        changed-at groups result g _ (inl (sym same, ap (λ (t : Bool). if t then Some result else groups pid) starts ∙ ap (λ (n : ℕ). Some n) same))
 
 told-founds : (e : Record) (groups : Groups) (g : ℕ) → founded e ≡ Some g → groups_told e groups g ≡ Some g
 told-founds e groups g h1 = grind (arith, nat_tests, called-founds, none-some)

@@ -5,18 +5,17 @@ use Rattle.std.proofs.lemmas.Bool.Decides.{nat_tests}
 use Rattle.std.proofs.lemmas.List.Elements.{filter-append}
 use Rattle.std.proofs.lemmas.List.Folds.{list_any-append}
 use Rattle.arn_base.specs.declared.records.Extra.{Extra}
-use Rattle.arn_base.specs.declared.records.Extra.TheVariants as extra
 use Rattle.arn_base.specs.declared.records.Record.{Record}
 use Rattle.arn_base.specs.declared.records.Record.TheVariants as entry
 use Rattle.parts_model.specs.declared.calls.TheConstants.{FORK}
 use Rattle.parts_model.specs.Replies.{is_success}
-use Rattle.acts_model.specs.Records.{is_event, process_of}
+use Rattle.acts_model.specs.Records.{child_forked, child_number, is_event, process_of}
 use Rattle.history_model.specs.Broken.{Behind, Nowhere, behind, behind_from, behind_record, broken_from, greatest, is_behind, misnumbers}
 use Rattle.history_model.specs.Events.{event_at, how_many}
-use Rattle.history_model.specs.Groups.{Groups, group_forked, groups_told, groups_from, group_of, event_group}
+use Rattle.history_model.specs.Groups.{Groups, child_group, group_made, groups_told, groups_from, group_of, event_group}
 use Rattle.history_model.specs.Moments.{changed}
 use Rattle.history_model.specs.Names.{is_boot, is_booted}
-use Rattle.query_laws.proofs.Found.{AreFounded, Stands, follows, greatest-push, left, numbered, tells-one}
+use Rattle.query_laws.proofs.Found.{AreFounded, Stands, child_if, follows, greatest-push, left, numbered, tells-one}
 
 -- before a boot there is no process and no slice
 abbrev pub Unbooted : List Record → Type 0
@@ -53,12 +52,11 @@ other-group groups most child pid g o f new is = by-test (pid == child) refl
     by-test : (b : Bool) → (pid == child) ≡ b → (if b then o else groups pid) ≡ Some g
     by-test b h1 = grind (arith, nat_tests, same)
 
-forked-group : (groups : Groups) (most pid child p g : ℕ) (more : Extra) → AreFounded groups most → child ≡ most + 1 → groups p ≡ Some g → group_forked pid child more groups p ≡ Some g
-forked-group groups most pid child p g (extra.Start start) f new is = other-group groups most child p g (Some child) f new is
-forked-group groups most pid child p g _ f new is = other-group groups most child p g (groups pid) f new is
+forked-group : (groups : Groups) (most pid child p g : ℕ) (more : Extra) → AreFounded groups most → child ≡ most + 1 → groups p ≡ Some g → group_made pid (Some (child_forked child more)) groups p ≡ Some g
+forked-group groups most pid child p g more f new is = other-group groups most child p g (child_group (child_forked child more) (groups pid)) f new is
 
-called-group : (before : List Record) (groups : Groups) (pid result p g : ℕ) (more : Extra) (b : Bool) → misnumbers before (if b then Some result else None) ≡ false → AreFounded groups (greatest before) → groups p ≡ Some g
-    → (if b then group_forked pid result more groups else groups) p ≡ Some g
+called-group : (before : List Record) (groups : Groups) (pid result p g : ℕ) (more : Extra) (b : Bool) → misnumbers before (child_number (child_if b result more)) ≡ false → AreFounded groups (greatest before) → groups p ≡ Some g
+    → group_made pid (child_if b result more) groups p ≡ Some g
 called-group before groups pid result p g more true h f is = forked-group groups (greatest before) pid result p g more f (numbered before result h) is
 called-group before groups pid result p g more false h f is = is
 

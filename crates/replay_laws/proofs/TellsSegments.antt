@@ -8,6 +8,7 @@ use Rattle.arn_base.specs.declared.records.Extra.{Extra}
 use Rattle.arn_base.specs.declared.records.Extra.TheVariants as extra
 use Rattle.arn_base.specs.declared.records.Record.{Record}
 use Rattle.arn_base.specs.declared.records.Record.TheVariants as entry
+use Rattle.arn_base.specs.declared.records.Start.{Start}
 use Rattle.parts_model.specs.declared.calls.TheConstants as number
 use Rattle.parts_model.specs.Replies.{is_success}
 use Rattle.parts_model.specs.Tagged.{values}
@@ -15,14 +16,14 @@ use Rattle.acts_model.specs.Acts as act
 use Rattle.acts_model.specs.Acts.{Act, acted, restored, beginning_of, joined, founded, done, done_by, unborn, child_view}
 use Rattle.acts_model.specs.Bodies.{Body, Bodies, View, body_at, seen, put, remove, become}
 use Rattle.acts_model.specs.Moved.{Event}
-use Rattle.acts_model.specs.Records.{process_of}
+use Rattle.acts_model.specs.Records.{child_called, process_of}
 use Rattle.acts_model.specs.Told as told
 use Rattle.acts_model.specs.Told.{kind_of, call_act, act_of}
 use Rattle.acts_model.specs.Views.{reach, with_reach, with_cpu, after_instr, argument}
 use Rattle.arn_model.specs.Kernel.{Machine, at_first}
 use Rattle.arn_model.specs.Step.{Step}
 use Rattle.arn_model.specs.Tells.{is_inner, StepTells, Runs, Happens, Boots, Adds, Types, Unplugs}
-use Rattle.history_model.specs.Moments.{changed, segment_forked, segment_started, segment_called, segments_told, segments_by}
+use Rattle.history_model.specs.Moments.{changed, segment_made, segment_started, segment_called, segments_told, segments_by}
 use Rattle.replay_laws.proofs.TellsSteps.{Facts, by_event, fold_events, as_numbered}
 use Rattle.replay_laws.proofs.Places.{put-body, remove-body, nobody-at}
 
@@ -129,16 +130,17 @@ module _ (pid event : ℕ) (v : View) (b : Bodies) (held : ℕ → Option ℕ) (
       (changed-here held child None)
 
   -- calls by kind
-  plain-fork : (result : ℕ) (t : Bool) → Follow pid event v b (cond t (act.Forks result) (act.Returns result)) (cond t (changed held result (held pid)) held)
+  plain-fork : (result : ℕ) (t : Bool) → Follow pid event v b (cond t (act.Forks result) (act.Returns result)) (segment_made pid (cond t (Some (record { number = result; start = None })) None) held)
   plain-fork result true = follow-forks result
   plain-fork result false = follow-returns result
 
-  start-fork : (result : ℕ) (t : Bool) → Follow pid event v b (cond t (act.Founds result) (act.Returns result)) (cond t (changed held result None) held)
-  start-fork result true = follow-founds result
-  start-fork result false = follow-returns result
+  start-fork : (result : ℕ) (start : Start) (t : Bool) → Follow pid event v b (cond t (act.Founds result) (act.Returns result)) (segment_made pid (cond t (Some (record { number = result; start = Some start })) None) held)
+  start-fork result start true = follow-founds result
+  start-fork result start false = follow-returns result
 
-  fork-follow : (cpu : Cpu) (result : ℕ) (more : Extra) → Follow pid event v b (call_act told.Fork cpu result more) (cond (is_success result) (segment_forked pid result more held) held)
-  fork-follow cpu result more = grind (arith, nat_tests, plain-fork, start-fork)
+  fork-follow : (cpu : Cpu) (result : ℕ) (more : Extra) → Follow pid event v b (call_act told.Fork cpu result more) (segment_made pid (child_called number.FORK result more) held)
+  fork-follow cpu result (extra.Start start) = start-fork result start (is_success result)
+  fork-follow cpu result _ = plain-fork result (is_success result)
 
   exec-follow : (cpu : Cpu) (result : ℕ) (more : Extra) → Follow pid event v b (call_act told.Exec cpu result more) (segment_started pid more held)
   exec-follow cpu result (extra.Give give) = follow-starts give.bytes (argument cpu 2) (argument cpu 3)

@@ -15,14 +15,14 @@ use Rattle.acts_model.specs.Acts.{Act, Returns, Forks, Founds, Delivers, Faults,
 use Rattle.acts_model.specs.Bodies.{View}
 use Rattle.acts_model.specs.Disagreement.{Wrong, wrong_if, or_else, isnt_call, is_other_call, act_wrong}
 use Rattle.acts_model.specs.Moved.{Inside}
-use Rattle.acts_model.specs.Records.{BeginsLife, life_told}
+use Rattle.acts_model.specs.Records.{BeginsLife, child_called, child_forked, life_told, start_held}
 use Rattle.acts_model.specs.Told.{Kind, Fork, kind_of, call_act, fork_act, delivery_act}
 use Rattle.acts_model.specs.Views.{stands_at}
 use Rattle.arn_model.specs.Doing.{Doing}
 use Rattle.arn_model.specs.Kernel.{Machine}
 use Rattle.arn_model.specs.Tells.{ForksRightly, EventTells}
-use Rattle.history_model.specs.Alone.{Own, Makes, begins, begin_inside, begins_by, call_start}
-use Rattle.history_model.specs.Groups.{Groups, group_forked, groups_told}
+use Rattle.history_model.specs.Alone.{Own, Makes, begins, begin_inside, begins_by}
+use Rattle.history_model.specs.Groups.{Groups, groups_told}
 use Rattle.history_model.specs.Moments.{changed}
 use Rattle.replay_laws.specs.Heard.{begin_by}
 use Rattle.replay_laws.proofs.Sized.{StartsWell}
@@ -95,9 +95,8 @@ kind-other n h1 = grind (arith, nat_tests, if-kind)
 other-none : (k : Kind) (cpu : Cpu) (result : ℕ) (more : Extra) → NoFork k → NoChild (call_act k cpu result more)
 other-none k cpu result more h1 = grind (arith, nat_tests, if-none)
 
-start-none : (n result : ℕ) (more : Extra) → (n == FORK) ≡ false → call_start n result more ≡ None
-start-none n result (extra.Start start) e = ap (λ (b : Bool). cond (b && is_success result) (Some start) None) e
-start-none n result more e = refl
+called-none : (n result : ℕ) (more : Extra) → (n == FORK) ≡ false → child_called n result more ≡ None
+called-none n result more e = ap (λ (b : Bool). cond (b && is_success result) (Some (child_forked result more)) None) e
 
 none-groups : (p : ℕ) (act : Act) (gs : Groups) → NoChild act → gs ≡ groups_after p act gs
 none-groups p act gs h1 = grind (arith, nat_tests)
@@ -113,18 +112,18 @@ none-child r act h1 = grind (arith, nat_tests)
 
 -- a call that isn't a fork
 other-tale : (p : ℕ) (v : View) (n result : ℕ) (more : Extra) (act : Act) → (n == FORK) ≡ false → NoChild act → StartsWell v act → Tale p v (entry.Call p n result more) act
-other-tale p v n result more act h1 h2 h3 = grind (arith, nat_tests, none-child, none-groups, none-inside, none-own, start-none)
+other-tale p v n result more act h1 h2 h3 = grind (arith, nat_tests, none-child, none-groups, none-inside, none-own, called-none)
 
 -- a fork
 founds-tale : (p child : ℕ) (v : View) (result : ℕ) (start : Start) (b : Bool) → is_success result ≡ b → ForksRightly child v (cond b (Founds result) (Returns result)) (extra.Start start) → Tale p v (entry.Call p FORK result (extra.Start start)) (cond b (Founds result) (Returns result))
 founds-tale p child v result start b h1 h2 = grind (arith, nat_tests)
 
-forks-tale : (p : ℕ) (v : View) (result : ℕ) (more : Extra) (b : Bool) → is_success result ≡ b → call_start FORK result more ≡ None → ((gs : Groups) → group_forked p result more gs ≡ changed gs result (gs p)) → Tale p v (entry.Call p FORK result more) (cond b (Forks result) (Returns result))
-forks-tale p v result more b h1 h2 h3 = grind (arith, nat_tests)
+forks-tale : (p : ℕ) (v : View) (result : ℕ) (more : Extra) (b : Bool) → is_success result ≡ b → start_held more ≡ None → Tale p v (entry.Call p FORK result more) (cond b (Forks result) (Returns result))
+forks-tale p v result more b h1 h2 = grind (arith, nat_tests)
 
 fork-tale : (p child : ℕ) (v : View) (result : ℕ) (more : Extra) → ForksRightly child v (fork_act result more) more → Tale p v (entry.Call p FORK result more) (fork_act result more)
 fork-tale p child v result (extra.Start start) h = founds-tale p child v result start (is_success result) refl h
-fork-tale p child v result more h = forks-tale p v result more (is_success result) refl refl (λ gs. refl)
+fork-tale p child v result more h = forks-tale p v result more (is_success result) refl refl
 
 call-tale : (p child : ℕ) (v : View) (n result : ℕ) (more : Extra) → ForksRightly child v (call_act (kind_of n) v.body.cpu result more) more → act_wrong v (call_act (kind_of n) v.body.cpu result more) more ≡ None → Tale p v (entry.Call p n result more) (call_act (kind_of n) v.body.cpu result more)
 call-tale p child v n result more h w = by_test (n == FORK) refl

@@ -4,9 +4,10 @@ use Rattle.arn_base.specs.declared.records.Record.{Record}
 use Rattle.arn_base.specs.declared.records.Record.TheVariants as entry
 use Rattle.arn_base.specs.declared.records.Start.{Start}
 use Rattle.acts_model.specs.Moved.{Event, Inside}
+use Rattle.acts_model.specs.Records.{child_called, child_start}
 use Rattle.arn_model.specs.Run.{Input, run, within}
 use Rattle.arn_model.specs.Step.{Step}
-use Rattle.history_model.specs.Alone.{call_start, begin_inside}
+use Rattle.history_model.specs.Alone.{begin_inside}
 use Rattle.history_model.specs.Groups.{Groups, group_of, is_number}
 use Rattle.log_model.specs.Records.{records}
 
@@ -25,7 +26,7 @@ begin_if g child event e None = []
 begin_if g child event e (Some start) = if child == g then begin_inside g event e start ∷ [] else []
 
 abbrev pub begin_by : ℕ → ℕ → Record → List Inside
-begin_by g event (entry.Call pid number result more) = begin_if g result event (entry.Call pid number result more) (call_start number result more)
+begin_by g event (entry.Call pid number result more) = begin_if g result event (entry.Call pid number result more) (child_start (child_called number result more))
 begin_by g event other = []
 
 abbrev pub begin_part : ℕ → Option Event → List Inside

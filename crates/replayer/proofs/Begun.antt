@@ -1,18 +1,21 @@
 -- The record by which a group begins.
 use Rattle.std.proofs.lemmas.Bool.Decides.{nat_tests}
-use Rattle.std.proofs.Common.{◌≡◌, ◌<◌, ℕ, ◌==◌, Bool, true, false, if◌then◌else◌, List, length, get_or, Option, Some, None, refl, ap, sym, ◌∙◌, arith, suc, ◌+◌, take, eqb-true}
+use Rattle.std.proofs.Common.{◌≡◌, ◌<◌, ℕ, ◌==◌, ◌&&◌, Bool, true, false, if◌then◌else◌, List, length, get_or, Option, Some, None, option_and_then, refl, ap, sym, ◌∙◌, arith, suc, ◌+◌, take, eqb-true}
 use Rattle.arn_base.specs.declared.records.Extra.{Extra}
 use Rattle.arn_base.specs.declared.records.Extra.TheVariants as extra
 use Rattle.arn_base.specs.declared.records.Record.{Record}
 use Rattle.arn_base.specs.declared.records.Record.TheVariants as entry
 use Rattle.arn_base.specs.declared.records.Start.{Start}
+use Rattle.parts_model.specs.declared.calls.TheConstants.{FORK}
+use Rattle.parts_model.specs.Replies.{is_success}
+use Rattle.acts_model.specs.Records.{child_forked, child_start, start_held}
 use Rattle.history_index.specs.Lookups.{founds}
-use Rattle.history_model.specs.Alone.{Makes, begins, begins_if, boots, call_start, nothing_own}
+use Rattle.history_model.specs.Alone.{Makes, begins, begins_if, boots, nothing_own}
 use Rattle.history_model.specs.Broken.{first_broken, behind, greatest, greatest_after}
-use Rattle.history_model.specs.Groups.{Groups, group_forked, group_of, groups_told, is_number}
+use Rattle.history_model.specs.Groups.{Groups, group_made, group_of, groups_told, is_number}
 use Rattle.history_model.specs.Names.{is_boot}
 use Rattle.replayer.specs.BySlices.{first_made}
-use Rattle.replayer.specs.Foundings.{start_of}
+use Rattle.replayer.specs.Foundings.{own_start, start_of}
 use Rattle.replayer.proofs.Kept.{group-kept, groups-next, groups_at}
 use Rattle.replayer.proofs.Loops.{greatest-snoc}
 use Rattle.replayer.proofs.Own.{founder-next, same-test}
@@ -43,7 +46,7 @@ module _ (g pid r : ℕ) where
   none-starts : (more : Extra) → is_number g (if g == r then None else None) ≡ true → Starts g true r more
   none-starts more is = no-way (sym (none-number (g == r) g) ∙ is)
 
-  start-there : (forks : Bool) (more : Extra) → is_number g ((if forks then group_forked pid r more (λ p. None) else (λ p. None)) g) ≡ true → Starts g forks r more
+  start-there : (forks : Bool) (more : Extra) → is_number g (group_made pid (if forks then Some (child_forked r more) else None) (λ p. None) g) ≡ true → Starts g forks r more
   start-there forks more h1 = grind (arith, nat_tests, no-way, some-number, none-starts)
 
 -- its first process is of it
@@ -63,7 +66,15 @@ begins-start : (g r event : ℕ) (e : Record) (start : Start) (c : Bool) (o : Op
 begins-start g r event e start c o h1 h2 = grind (arith, nat_tests)
 
 pub first-starts : (g event : ℕ) (e : Record) (start : Start) → start_of g e ≡ Some start → first_made g event e ≡ Makes (begins g event e start nothing_own)
-first-starts g event (entry.Call pid number r more) start is = begins-start g r event (entry.Call pid number r more) start (r == g) (call_start number r more) refl is
+first-starts g event (entry.Call pid number r more) start is = by_test ((number == FORK) && is_success r) is
+  where
+    e : Record
+    e = entry.Call pid number r more
+
+    by_test : (b : Bool) → option_and_then (own_start g) (if b then Some (child_forked r more) else None) ≡ Some start
+        → begins_if g r event e (child_start (if b then Some (child_forked r more) else None)) nothing_own ≡ Makes (begins g event e start nothing_own)
+    by_test true h = begins-start g r event e start (r == g) (start_held more) refl h
+    by_test false h = absurd (let no : None ≡ Some start = h in cc)
 first-starts g event _ start is = absurd (let no : None ≡ Some start = is in cc)
 
 -- or the boot

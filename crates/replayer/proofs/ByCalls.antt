@@ -1,7 +1,7 @@
 -- Who lives behind a call, and of which group.
 use Rattle.std.proofs.lemmas.Bool.Decides.{nat_tests}
 use Rattle.std.proofs.lemmas.Grind.{common_steps}
-use Rattle.std.proofs.Common.{◌≡◌, ◌≢◌, ◌⊎◌, ℕ, ◌==◌, ◌&&◌, Bool, true, false, if◌then◌else◌, Some, inl, inr, refl, ap, sym, ◌∙◌, arith}
+use Rattle.std.proofs.Common.{◌≡◌, ◌≢◌, ◌⊎◌, ℕ, ◌==◌, ◌&&◌, Bool, true, false, if◌then◌else◌, Some, None, inl, inr, refl, ap, sym, ◌∙◌, arith}
 use Rattle.std.proofs.lemmas.Bool.{and_parts, eqb-true}
 use Rattle.std.proofs.lemmas.Bool.Decides.{eqb_tells}
 use Rattle.arn_base.specs.declared.machine.Cpu.{Cpu}
@@ -11,11 +11,11 @@ use Rattle.arn_base.specs.declared.records.Start.{Start}
 use Rattle.parts_model.specs.declared.calls.TheConstants as number
 use Rattle.parts_model.specs.Replies.{is_success}
 use Rattle.acts_model.specs.Acts.{Act, Forks, Returns}
-use Rattle.acts_model.specs.Records.{BeginsLife, EndsLife, NoLife, lives_after}
+use Rattle.acts_model.specs.Records.{EndsLife, child_forked, child_life, lives_after}
 use Rattle.acts_model.specs.Told.{Kind, Exit, Fork, Exec, Wait, Sigreturn, Read, Write, Shm, Other, call_act, exec_act, fork_act, kind_of, read_act, wait_act, write_act}
-use Rattle.history_model.specs.Groups.{Groups, group_forked, is_number}
+use Rattle.history_model.specs.Groups.{Groups, group_made, is_number}
 use Rattle.replayer.proofs.Bodies.{ends}
-use Rattle.replayer.proofs.Own.{forked-kept, same-test}
+use Rattle.replayer.proofs.Own.{made-kept, same-test}
 use Rattle.replayer.proofs.Passing.{no-way}
 
 -- a fork is no exit
@@ -23,12 +23,13 @@ pub fork-not-exit : (n : ℕ) (success : Bool) → ((n == number.FORK) && succes
 fork-not-exit n success is = ap (λ (m : ℕ). m == number.EXIT) (eqb-true n number.FORK (and_parts (n == number.FORK) success is).0)
 
 -- who lives is the child, or lived before
-pub call-lives : (exits forks : Bool) (pid r p : ℕ) (before : Bool) → (forks ≡ true → exits ≡ false) → lives_after (if exits then EndsLife pid else if forks then BeginsLife r else NoLife) p before ≡ true
+pub call-lives : (exits forks : Bool) (more : Extra) (pid r p : ℕ) (before : Bool) → (forks ≡ true → exits ≡ false)
+    → lives_after (if exits then EndsLife pid else child_life (if forks then Some (child_forked r more) else None)) p before ≡ true
     → ((forks ≡ true) × (p ≡ r)) ⊎ ((before ≡ true) × (p ≡ pid → exits ≡ false) × (forks ≡ true → p ≢ r))
-call-lives exits forks pid r p before h1 h2 = grind (arith, common_steps, nat_tests, no-way, same-test, eqb_tells)
+call-lives exits forks more pid r p before h1 h2 = grind (arith, common_steps, nat_tests, no-way, same-test, eqb_tells)
 
-pub called-other : (forks : Bool) (more : Extra) (pid r p : ℕ) (groups : Groups) → (forks ≡ true → p ≢ r) → (if forks then group_forked pid r more groups else groups) p ≡ groups p
-called-other true more pid r p groups apart = forked-kept more pid r groups p (apart refl)
+pub called-other : (forks : Bool) (more : Extra) (pid r p : ℕ) (groups : Groups) → (forks ≡ true → p ≢ r) → group_made pid (if forks then Some (child_forked r more) else None) groups p ≡ groups p
+called-other true more pid r p groups apart = made-kept (child_forked r more) pid groups p (apart refl)
 called-other false more pid r p groups apart = refl
 
 -- a child is of the group that it starts, or of its parent's, which it joins
@@ -37,7 +38,7 @@ module _ (g pid r : ℕ) (groups : Groups) where
       → ((start : Start) × (more ≡ extra.Start start) × (r ≡ g)) ⊎ ((is_number g (groups pid) ≡ true) × (fork_act r more ≡ (if is_success r then Forks r else Returns r)))
   joined more same is = inr (sym (ap (λ (c : Bool). is_number g (if c then groups pid else groups r)) (same-test r r refl)) ∙ is, same)
 
-  pub forked-child : (more : Extra) → is_number g (group_forked pid r more groups r) ≡ true
+  pub forked-child : (more : Extra) → is_number g (group_made pid (Some (child_forked r more)) groups r) ≡ true
       → ((start : Start) × (more ≡ extra.Start start) × (r ≡ g)) ⊎ ((is_number g (groups pid) ≡ true) × (fork_act r more ≡ (if is_success r then Forks r else Returns r)))
   forked-child (extra.Start start) is = inl (start, refl, eqb-true r g (sym (ap (λ (c : Bool). is_number g (if c then Some r else groups r)) (same-test r r refl)) ∙ is))
   forked-child more is = joined more refl is

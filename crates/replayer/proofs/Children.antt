@@ -9,6 +9,7 @@ use Rattle.arn_base.specs.declared.records.Record.TheVariants as entry
 use Rattle.parts_model.specs.declared.calls.TheConstants as number
 use Rattle.parts_model.specs.Replies.{is_success}
 use Rattle.acts_model.specs.Acts.{Act, Returns, Gives, Delivers, Dies, Forks, Founds}
+use Rattle.acts_model.specs.Records.{child_forked, child_number}
 use Rattle.acts_model.specs.Told.{Kind, Exit, Fork, Exec, Wait, Sigreturn, Read, Write, Shm, Other, act_of, call_act, exec_act, fork_act, is_pipe_write, kind_of, read_act, wait_act, write_act}
 use Rattle.history_model.specs.Broken.{child_in}
 use Rattle.replay_steps.specs.Calls.{child_joined}
@@ -54,12 +55,13 @@ pub kind-fork : (n : ℕ) → kind_of n ≡ Fork → (n == number.FORK) ≡ true
 kind-fork n is =
     only-fork (n == number.EXIT) (n == number.FORK) (n == number.EXEC) (n == number.WAIT) (n == number.SIGRETURN) (n == number.READ) (n == number.WRITE) (n == number.SHM) is
 
-if-both : (a b : Bool) (r p : ℕ) → a ≡ true → (if b then Some r else None) ≡ Some p → (if a && b then Some r else None) ≡ Some p
-if-both true b r p yea is = is
-if-both false b r p yea is = absurd (let no : false ≡ true = yea in cc)
+if-both : (a b : Bool) (r p : ℕ) (more : Extra) → a ≡ true → (if b then Some r else None) ≡ Some p → child_number (if a && b then Some (child_forked r more) else None) ≡ Some p
+if-both true true r p more yea is = is
+if-both true false r p more yea is = is
+if-both false b r p more yea is = absurd (let no : false ≡ true = yea in cc)
 
 -- the child that joins is the one that the record tells
 pub joined-in : (cpu : Cpu) (e : Record) (p : ℕ) → option_and_then child_joined (act_of cpu e) ≡ Some p → child_in e ≡ Some p
-joined-in cpu (entry.Call pid n r more) p is = grind (arith, nat_tests, if-both (n == number.FORK) (is_success r) r p (kind-fork n (call-in (kind_of n) cpu r p more is).0) (call-in (kind_of n) cpu r p more is).1)
+joined-in cpu (entry.Call pid n r more) p is = grind (arith, nat_tests, if-both (n == number.FORK) (is_success r) r p more (kind-fork n (call-in (kind_of n) cpu r p more is).0) (call-in (kind_of n) cpu r p more is).1)
 joined-in cpu (entry.Signal pid signal cut handler) p is = grind (arith, nat_tests, neither (handler == 0) (Dies signal cut) (Delivers signal handler cut) refl refl)
 joined-in cpu _ p is = absurd (let none : None ≡ Some p = is in cc)

@@ -6,6 +6,7 @@ use Rattle.std.proofs.lemmas.Bool.Decides.{eqb_tells}
 use Rattle.std.proofs.lemmas.Bool.{not-false}
 use Rattle.arn_base.specs.declared.machine.Cpu.{Cpu}
 use Rattle.arn_base.specs.declared.records.Extra.{Extra}
+use Rattle.arn_base.specs.declared.records.Extra.TheVariants as extra
 use Rattle.arn_base.specs.declared.records.Give.{Give}
 use Rattle.arn_base.specs.declared.records.Record.{Record}
 use Rattle.arn_base.specs.declared.records.Record.TheVariants as entry
@@ -14,12 +15,12 @@ use Rattle.acts_model.specs.Acts as act
 use Rattle.acts_model.specs.Acts.{Act, done_by, unborn}
 use Rattle.acts_model.specs.Bodies.{Bodies, View, seen, put}
 use Rattle.acts_model.specs.Moved.{is_call_or_end}
-use Rattle.acts_model.specs.Records.{EndsLife, NoLife, is_event, lives_after}
+use Rattle.acts_model.specs.Records.{EndsLife, NoLife, child_called, child_forked, child_start, is_event, lives_after}
 use Rattle.acts_model.specs.Told.{act_of, delivery_act, call_act, kind_of}
 use Rattle.history_model.specs.Alone as alone
 use Rattle.history_model.specs.Alone.{Own, Made, Makes, Fails, Standing, and_then, replayed, settled, at_first, nothing_own}
 use Rattle.history_model.specs.Broken.{Behind, Nowhere, ADelivery, behind_record, behind_signal, first_broken, greatest_after, is_behind}
-use Rattle.history_model.specs.Groups.{Groups, count_from, count_of, group_of, groups_from, groups_told, is_number, ran_for, group_forked}
+use Rattle.history_model.specs.Groups.{Groups, count_from, count_of, group_of, groups_from, groups_told, is_number, ran_for, group_made}
 use Rattle.history_model.specs.Moments.{ran_in}
 use Rattle.replay_steps.specs.Standing.{is_counted}
 use Rattle.replayer.specs.Bounds.{count_before_from, ran_before, ran_for_before}
@@ -294,22 +295,22 @@ module _ (g until : ℕ) (groups : Groups) (b : Behind) (n : ℕ) (t : Standing)
         let e : Record = entry.Call pid number r more in
         let hand : is_behind pid b ≡ true = not-false (is_behind pid b) at.sound.0.slice in
         let all = lasts g until groups b n t own live rest e pid at refl (λ cpu. (call_act (kind_of number) cpu r more, refl)) hand
-        (λ last mid is. (begins-goes g r t.events e last mid (alone.call_start number r more) is).counted) mid t.is_ended refl made in
+        (λ last mid is. (begins-goes g r t.events e last mid (child_start (child_called number r more)) is).counted) mid t.is_ended refl made in
         record {
           at = event-at g until groups b n t own live rest e refl at mid made (λ q is. no-way is)
               (λ le p lives is.
               let parts = all.parts le in
-              let began = begins-goes g r t.events e parts.0 mid (alone.call_start number r more) parts.2 in
-              elim (call-lives (number == EXIT) ((number == FORK) && is_success r) pid r p (live p) (fork-not-exit number (is_success r)) lives) [
+              let began = begins-goes g r t.events e parts.0 mid (child_start (child_called number r more)) parts.2 in
+              elim (call-lives (number == EXIT) ((number == FORK) && is_success r) more pid r p (live p) (fork-not-exit number (is_success r)) lives) [
                 | inl k ↦
-                    let child : is_number g (group_forked pid r more t.groups r) ≡ true =
-                    ap (λ (q : ℕ). is_number g (group_forked pid r more t.groups q)) (sym k.1)
-                    ∙ (ap (λ (c : Bool). is_number g ((if c then group_forked pid r more t.groups else t.groups) p)) (sym k.0) ∙ is) in
+                    let child : is_number g (group_made pid (Some (child_forked r more)) t.groups r) ≡ true =
+                    ap (λ (q : ℕ). is_number g (group_made pid (Some (child_forked r more)) t.groups q)) (sym k.1)
+                    ∙ (ap (λ (c : Bool). is_number g (group_made pid (if c then Some (child_forked r more) else None) t.groups p)) (sym k.0) ∙ is) in
                     subst (HasBody mid.bodies) (sym k.1)
                     (elim (forked-child g pid r t.groups more child) [
                       | inl s ↦
-                          let start : alone.call_start number r more ≡ Some s.0 =
-                          ap (alone.call_start number r) s.1 ∙ ap (λ (c : Bool). if c then Some s.0 else None) k.0 in
+                          let start : child_start (child_called number r more) ≡ Some s.0 =
+                          ap (λ (m : Extra). child_start (child_called number r m)) s.1 ∙ ap (λ (c : Bool). child_start (if c then Some (child_forked r (extra.Start s.0)) else None)) k.0 in
                           subst (HasBody mid.bodies) (sym s.2)
                           (begins-first g r t.events e parts.0 mid s.0 s.2 (ap (λ (o : Option Start). alone.begins_if g r t.events e o parts.0) (sym start) ∙ parts.2))
                       | inr j ↦ began.keeps r (parts.1.joins j.0 r (λ cpu. ap Some (forks-act number r more cpu k.0 j.1)))

@@ -10,10 +10,11 @@ use Rattle.arn_base.specs.declared.records.Record.TheVariants as entry
 use Rattle.parts_model.specs.declared.calls.TheConstants as number
 use Rattle.parts_model.specs.Replies.{is_success}
 use Rattle.acts_model.specs.Acts.{Returns, Forks, Founds, Delivers, Dies}
+use Rattle.acts_model.specs.Records.{child_forked}
 use Rattle.acts_model.specs.Told.{Kind, act_of, call_act, fork_act, kind_of}
 use Rattle.history_index.specs.Check.{lacks_slice_by}
 use Rattle.history_model.specs.Broken.{Behind, behind, first_broken, greatest, greatest_after, is_behind}
-use Rattle.history_model.specs.Groups.{Groups, group_forked, group_of, groups_told}
+use Rattle.history_model.specs.Groups.{Groups, group_made, group_of, groups_told}
 use Rattle.history_model.specs.Moments.{changed}
 use Rattle.replay_steps.specs.Calls.{child_joined}
 use Rattle.replayer.proofs.Children.{call-in, kind-fork, neither}
@@ -25,7 +26,7 @@ use Rattle.replayer.proofs.Sound.{fits}
 -- it has the group of its parent
 record Joins (groups : Groups) (pid r : ℕ) (more : Extra) (p : ℕ) : Type 0 where
   success : is_success r ≡ true
-  group : group_forked pid r more groups p ≡ groups pid
+  group : group_made pid (Some (child_forked r more)) groups p ≡ groups pid
 
 if-joins : (test : Bool) (r p : ℕ) → child_joined (if test then Forks r else Returns r) ≡ Some p → (test ≡ true) × (r ≡ p)
 if-joins true r p is = (refl, (let same : Some r ≡ Some p = is in cc))
@@ -35,7 +36,7 @@ changed-here : (groups : Groups) (pid r p : ℕ) → r ≡ p → changed groups 
 changed-here groups pid r p same = ap (λ (c : Bool). if c then groups pid else groups p) (same-test p r (sym same))
 
 module _ (groups : Groups) (pid r p : ℕ) where
-  joins-plain : (more : Extra) → group_forked pid r more groups p ≡ changed groups r (groups pid) p → child_joined (if is_success r then Forks r else Returns r) ≡ Some p → Joins groups pid r more p
+  joins-plain : (more : Extra) → group_made pid (Some (child_forked r more)) groups p ≡ changed groups r (groups pid) p → child_joined (if is_success r then Forks r else Returns r) ≡ Some p → Joins groups pid r more p
   joins-plain more same is =
       let found = if-joins (is_success r) r p is in record { success = found.0; group = same ∙ changed-here groups pid r p found.1 }
 
@@ -58,7 +59,7 @@ parent cpu groups b (entry.Call pid n r more) p held is =
     record {
       pid = pid;
       hand = not-false (is_behind pid b) held;
-      group = ap (λ (c : Bool). (if c then group_forked pid r more groups else groups) p) both ∙ joins.group;
+      group = ap (λ (c : Bool). group_made pid (if c then Some (child_forked r more) else None) groups p) both ∙ joins.group;
     }
 parent cpu groups b (entry.Signal pid signal cut handler) p held is = grind (arith, nat_tests, neither (handler == 0) (Dies signal cut) (Delivers signal handler cut) refl refl)
 parent cpu groups b _ p held is = absurd (let none : None ≡ Some p = is in cc)

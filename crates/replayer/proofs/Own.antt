@@ -1,19 +1,16 @@
 -- Records beside a group's: which are its own, and what each leaves.
 use Rattle.std.proofs.lemmas.Grind.{common_steps}
 use Rattle.std.proofs.lemmas.Bool.Decides.{nat_tests}
-use Rattle.std.proofs.Common.{◌≡◌, ◌≢◌, ◌⊎◌, ◌<◌, ◌≤◌, ℕ, ◌+◌, ◌==◌, ◌&&◌, max, Bool, true, false, if◌then◌else◌, List, [], ◌∷◌, Option, Some, None, IfSome, inl, inr, refl, ap, ◌∙◌, arith}
+use Rattle.std.proofs.Common.{◌≡◌, ◌≢◌, ◌⊎◌, ◌<◌, ◌≤◌, ℕ, ◌+◌, ◌==◌, max, Bool, true, false, if◌then◌else◌, List, [], ◌∷◌, Option, Some, None, IfSome, inl, inr, refl, ap, ◌∙◌, arith}
+use Rattle.std.specs.Option.{option_map_or}
 use Rattle.std.proofs.lemmas.Bool.{eqb-true, not-false, and_parts, cases_Bool}
 use Rattle.std.proofs.lemmas.Bool.Decides.{eqb_tells}
-use Rattle.arn_base.specs.declared.records.Extra.{Extra}
-use Rattle.arn_base.specs.declared.records.Extra.TheVariants as extra
 use Rattle.arn_base.specs.declared.records.Record.{Record}
 use Rattle.arn_base.specs.declared.records.Record.TheVariants as entry
-use Rattle.parts_model.specs.declared.calls.TheConstants.{FORK}
-use Rattle.parts_model.specs.Replies.{is_success}
-use Rattle.acts_model.specs.Records.{is_event}
+use Rattle.acts_model.specs.Records.{Child, child_called, child_number, is_event, is_founder}
 use Rattle.history_index.specs.Lookups.{founds}
 use Rattle.history_model.specs.Broken.{Behind, Nowhere, ADelivery, behind_record, behind_signal, greatest_after, is_behind}
-use Rattle.history_model.specs.Groups.{Groups, group_forked, groups_from, groups_told, is_number}
+use Rattle.history_model.specs.Groups.{Groups, child_group, group_made, groups_from, groups_told, is_number}
 use Rattle.history_model.specs.Moments.{changed}
 use Rattle.history_model.specs.Names.{is_boot}
 use Rattle.replayer.proofs.Passing.{first-not, is_own}
@@ -24,16 +21,15 @@ changed-other : {A : Type 0} (f : ℕ → A) (k : ℕ) (x : A) (i : ℕ) → i �
 changed-other f k x i apart = elim (eqb_tells i k) [ inl e ↦ absurd (apart e.1) | inr e ↦ ap (λ (b : Bool). if b then x else f i) e.0 ]
 
 -- who was made keeps its group
-pub forked-kept : (more : Extra) (pid child : ℕ) (groups : Groups) (p : ℕ) → p ≢ child → group_forked pid child more groups p ≡ groups p
-forked-kept (extra.Start start) pid child groups p apart = changed-other groups child (Some child) p apart
-forked-kept _ pid child groups p apart = changed-other groups child (groups pid) p apart
+pub made-kept : (child : Child) (pid : ℕ) (groups : Groups) (p : ℕ) → p ≢ child.number → group_made pid (Some child) groups p ≡ groups p
+made-kept child pid groups p apart = changed-other groups child.number (child_group child (groups pid)) p apart
 
-called-kept : (forks : Bool) (more : Extra) (pid r n : ℕ) (groups : Groups) (p : ℕ) → IfSome (if forks then Some r else None) (λ c. c ≡ n + 1) → (p ≤ n) ⊎ ((if forks then max n r else n) < p) → (if forks then group_forked pid r more groups else groups) p ≡ groups p
-called-kept true more pid r n groups p is out = forked-kept more pid r groups p (λ same. elim out [ inl le ↦ absurd (omega (arith, same, is, le)) | inr lt ↦ absurd (omega (arith, same, is, lt)) ])
-called-kept false more pid r n groups p is out = refl
+called-kept : (child : Option Child) (pid n : ℕ) (groups : Groups) (p : ℕ) → IfSome (child_number child) (λ c. c ≡ n + 1) → (p ≤ n) ⊎ (option_map_or (max n) (child_number child) n < p) → group_made pid child groups p ≡ groups p
+called-kept (Some child) pid n groups p is out = made-kept child pid groups p (λ same. elim out [ inl le ↦ absurd (omega (arith, same, is, le)) | inr lt ↦ absurd (omega (arith, same, is, lt)) ])
+called-kept None pid n groups p is out = refl
 
 pub told-kept : (b : Behind) (n : ℕ) (e : Record) (groups : Groups) (p : ℕ) → Fits b n e → is_boot e ≡ false → (p ≤ n) ⊎ (greatest_after e n < p) → groups_told e groups p ≡ groups p
-told-kept b n (entry.Call pid number r more) groups p f isnt out = called-kept ((number == FORK) && is_success r) more pid r n groups p f.child out
+told-kept b n (entry.Call pid number r more) groups p f isnt out = called-kept (child_called number r more) pid n groups p f.child out
 told-kept b n (entry.Boot name give) groups p f isnt out = absurd (let no-way : true ≡ false = isnt in cc)
 told-kept b n _ groups p f isnt out = refl
 
@@ -64,8 +60,8 @@ pub hand-less : (b : Behind) (e : Record) (q : ℕ) → is_event e ≡ true → 
 hand-less b e q h1 h2 = grind (arith, common_steps, nat_tests, hand-signal)
 
 -- a record that begins a group
-begins-at : (forks : Bool) (g pid r : ℕ) (more : Extra) → is_number g ((if forks then group_forked pid r more (λ p. None) else (λ p. None)) g) ≡ true → (if forks then Some r else None) ≡ Some g
-begins-at forks g pid r more h1 = grind (arith, nat_tests, eqb_tells)
+begins-at : (child : Option Child) (g pid : ℕ) → is_number g (group_made pid child (λ p. None) g) ≡ true → child_number child ≡ Some g
+begins-at child g pid h1 = grind (arith, nat_tests, eqb_tells)
 
 -- it makes the first process
 pub founder-next : (b : Behind) (n g : ℕ) (e : Record) → Fits b n e → founds g e ≡ true → (g ≡ n + 1) × (greatest_after e n ≡ n + 1) × ((q : ℕ) → is_behind q (behind_record b e) ≡ false)
@@ -84,17 +80,18 @@ number-changed : (g k : ℕ) (x : Option ℕ) (groups : Groups) (p : ℕ) → is
 number-changed g k x groups p h1 h2 = grind (arith, nat_tests)
 
 module _ (g : ℕ) (groups : Groups) (none : (p : ℕ) → is_number g (groups p) ≡ false) where
-  forked-none : (pid r : ℕ) (more : Extra) → is_number g (group_forked pid r more (λ p. None) g) ≡ false → (p : ℕ) → is_number g (group_forked pid r more groups p) ≡ false
-  forked-none pid r (extra.Start start) isnt p = number-changed g r (Some r) groups p (first-not g r isnt) (none p)
-  forked-none pid r _ isnt p = number-changed g r (groups pid) groups p (none pid) (none p)
+  child-none : (founds : Bool) (pid child : ℕ) → is_number g (if g == child then if founds then Some child else None else None) ≡ false → is_number g (if founds then Some child else groups pid) ≡ false
+  child-none true pid child isnt = first-not g child isnt
+  child-none false pid child isnt = none pid
 
-  called-none : (forks : Bool) (pid r : ℕ) (more : Extra) → is_number g ((if forks then group_forked pid r more (λ p. None) else (λ p. None)) g) ≡ false → (p : ℕ) → is_number g ((if forks then group_forked pid r more groups else groups) p) ≡ false
-  called-none true pid r more isnt p = forked-none pid r more isnt p
-  called-none false pid r more isnt p = none p
+  called-none : (pid : ℕ) (child : Option Child) → is_number g (group_made pid child (λ p. None) g) ≡ false → (p : ℕ) → is_number g (group_made pid child groups p) ≡ false
+  called-none pid (Some child) isnt p =
+      number-changed g child.number (child_group child (groups pid)) groups p (child-none (is_founder child) pid child.number isnt) (none p)
+  called-none pid None isnt p = none p
 
   pub told-none : (e : Record) → founds g e ≡ false → (p : ℕ) → is_number g (groups_told e groups p) ≡ false
   told-none (entry.Boot name give) isnt p = number-changed g 1 (Some 1) groups p (first-not g 1 isnt) (none p)
-  told-none (entry.Call pid number r more) isnt p = called-none ((number == FORK) && is_success r) pid r more isnt p
+  told-none (entry.Call pid number r more) isnt p = called-none pid (child_called number r more) isnt p
   told-none _ isnt p = none p
 
   pub own-none : (e : Record) → founds g e ≡ false → is_own g groups e ≡ false

@@ -1,6 +1,6 @@
 -- A replay passes over records of other groups.
 use Rattle.std.proofs.lemmas.Bool.Decides.{nat_tests}
-use Rattle.std.proofs.Common.{◌≡◌, ℕ, ◌+◌, ◌-◌, ◌==◌, ◌&&◌, ◌||◌, option_and_then, Bool, true, false, if◌then◌else◌, Some, None, refl, ap, ◌∙◌, arith}
+use Rattle.std.proofs.Common.{◌≡◌, ℕ, ◌+◌, ◌==◌, ◌&&◌, ◌||◌, option_and_then, Bool, true, false, if◌then◌else◌, Some, None, refl, ap, ◌∙◌, arith}
 use Rattle.std.proofs.lemmas.Bool.{or_parts}
 use Rattle.std.proofs.lemmas.Bool.Decides.{eqb_tells}
 use Rattle.arn_base.specs.declared.records.Extra.{Extra}
@@ -10,11 +10,11 @@ use Rattle.arn_base.specs.declared.records.Record.TheVariants as entry
 use Rattle.arn_base.specs.declared.records.Start.{Start}
 use Rattle.parts_model.specs.declared.calls.TheConstants.{FORK}
 use Rattle.parts_model.specs.Replies.{is_success}
-use Rattle.acts_model.specs.Records.{process_of}
+use Rattle.acts_model.specs.Records.{child_forked, child_start, process_of}
 use Rattle.history_index.specs.Lookups.{founds, events_in}
 use Rattle.history_model.specs.Alone as alone
 use Rattle.history_model.specs.Alone.{Standing, Own, Made, Makes, Fails, and_then, settled}
-use Rattle.history_model.specs.Groups.{Groups, group_forked, groups_told, is_number}
+use Rattle.history_model.specs.Groups.{Groups, group_made, groups_told, is_number}
 use Rattle.history_model.specs.Moments.{ran_in}
 
 -- whether a record is a group's own, where processes have these groups: it begins the group, or its process is of it
@@ -53,15 +53,15 @@ first-not g r none = grind (arith, eqb_tells r g)
 begins-not : (g r event : ℕ) (e : Record) (start : Start) (own : Own) → (r == g) ≡ false → alone.begins_if g r event e (Some start) own ≡ Makes own
 begins-not g r event e start own not = ap (λ (b : Bool). if b then Makes (alone.begins g event e start own) else Makes own) not
 
-begins-other : (forks : Bool) (g pid r event : ℕ) (e : Record) (start : Start) (own : Own) → is_number g ((if forks then group_forked pid r (extra.Start start) (λ p. None) else (λ p. None)) g) ≡ false
-    → alone.begins_if g r event e (if forks then Some start else None) own ≡ Makes own
-begins-other true g pid r event e start own none = begins-not g r event e start own (first-not g r none)
-begins-other false g pid r event e start own none = refl
+begins-other : (forks : Bool) (more : Extra) (g pid r event : ℕ) (e : Record) (own : Own) → is_number g (group_made pid (if forks then Some (child_forked r more) else None) (λ p. None) g) ≡ false
+    → alone.begins_if g r event e (child_start (if forks then Some (child_forked r more) else None)) own ≡ Makes own
+begins-other true (extra.Start start) g pid r event e own none = begins-not g r event e start own (first-not g r none)
+begins-other true _ g pid r event e own none = refl
+begins-other false more g pid r event e own none = refl
 
 module _ (g pid number r event : ℕ) (own : Own) where
   pub call-begins : (more : Extra) → founds g (entry.Call pid number r more) ≡ false → alone.begins_by g event (entry.Call pid number r more) own ≡ Makes own
-  call-begins (extra.Start start) none = begins-other ((number == FORK) && is_success r) g pid r event (entry.Call pid number r (extra.Start start)) start own none
-  call-begins _ none = refl
+  call-begins more none = begins-other ((number == FORK) && is_success r) more g pid r event (entry.Call pid number r more) own none
 
 -- one record of another group makes nothing, and owes nothing
 pub record Passes (t t' : Standing) : Type 0 where

@@ -1,13 +1,13 @@
 -- What stands of each record of a list that isn't broken, by the records before it.
 use Rattle.std.proofs.lemmas.Grind.{common_steps}
 use Rattle.std.proofs.lemmas.Bool.Decides.{nat_tests}
-use Rattle.std.proofs.Common.{◌≡◌, ◌<◌, ◌≤◌, ℕ, zero, suc, ◌+◌, ◌==◌, ◌&&◌, not, max, Bool, true, false, if◌then◌else◌, List, [], ◌∷◌, length, take, drop, get_or, Option, Some, None, IfSome, refl, ap, sym, arith, subst}
+use Rattle.std.proofs.Common.{◌≡◌, ◌<◌, ◌≤◌, ℕ, zero, suc, ◌+◌, ◌==◌, not, max, Bool, true, false, if◌then◌else◌, List, [], ◌∷◌, length, take, drop, get_or, Option, Some, None, IfSome, refl, ap, sym, arith, subst}
+use Rattle.std.specs.Option.{option_map_or}
 use Rattle.std.proofs.lemmas.Bool.{eqb-true, not-false}
 use Rattle.arn_base.specs.declared.records.Record.{Record}
 use Rattle.arn_base.specs.declared.records.Record.TheVariants as entry
-use Rattle.parts_model.specs.declared.calls.TheConstants.{FORK, EXIT}
-use Rattle.parts_model.specs.Replies.{is_success}
-use Rattle.acts_model.specs.Records.{LifeChange, BeginsLife, EndsLife, NoLife, life_told, lives_after}
+use Rattle.parts_model.specs.declared.calls.TheConstants.{EXIT}
+use Rattle.acts_model.specs.Records.{Child, LifeChange, BeginsLife, EndsLife, NoLife, child_called, child_life, child_number, life_told, lives_after}
 use Rattle.history_index.specs.Check.{lacks_slice_by}
 use Rattle.history_model.specs.Broken.{Behind, Nowhere, behind, behind_from, behind_record, child_in, first_broken, greatest, greatest_after, greatest_from}
 use Rattle.history_model.specs.Moments.{Numbered, events_from, if_happened, lives_at, lives_by, total}
@@ -60,20 +60,20 @@ happened-born : (c : Bool) (n k : ℕ) (e : Record) (events : List Numbered) →
 happened-born true n k e events born all = (born, all)
 happened-born false n k e events born all = all
 
-grows-if : (c : Bool) (m r : ℕ) → m ≤ (if c then max m r else m)
-grows-if true m r = omega arith
-grows-if false m r = omega arith
+grows-if : (child : Option ℕ) (m : ℕ) → m ≤ option_map_or (max m) child m
+grows-if (Some c) m = omega arith
+grows-if None m = omega arith
 
 pub grows : (e : Record) (m : ℕ) → m ≤ greatest_after e m
-grows (entry.Call pid number r more) m = grows-if ((number == FORK) && is_success r) m r
-grows _ m = omega arith
+grows (entry.Boot name give) m = omega arith
+grows e m = grows-if (child_in e) m
 
 pub grows-all : (entries : List Record) (m : ℕ) → m ≤ greatest_from m entries
 grows-all [] m = omega arith
 grows-all (e ∷ entries) m = let one = grows e m in let rest = grows-all entries (greatest_after e m) in omega (arith, one, rest)
 
-born-call : (exits forks : Bool) (m pid r n : ℕ) → (if forks then max m r else m) ≤ n → Born n (if exits then EndsLife pid else if forks then BeginsLife r else NoLife)
-born-call exits forks m pid r n h1 = grind (arith, common_steps, nat_tests)
+born-call : (exits : Bool) (child : Option Child) (m pid n : ℕ) → option_map_or (max m) (child_number child) m ≤ n → Born n (if exits then EndsLife pid else child_life child)
+born-call exits child m pid n h1 = grind (arith, common_steps, nat_tests)
 
 born-signal : (c : Bool) (pid n : ℕ) → Born n (if c then EndsLife pid else NoLife)
 born-signal true pid n = tt
@@ -84,7 +84,7 @@ all-born moment begins ends k m n [] le = tt
 all-born moment begins ends k m n (entry.Slice pid ran ∷ entries) le = all-born moment ends (ends + ran) k m n entries le
 all-born moment begins ends k m n (entry.Signal pid signal cut handler ∷ entries) le = grind (arith, nat_tests, born-signal (handler == 0) pid n, all-born moment begins ends (k + 1) m n entries le)
 all-born moment begins ends k m n (entry.Boot name give ∷ entries) le = grind (arith, nat_tests, grows-all entries (max m 1), all-born moment begins ends (k + 1) (max m 1) n entries le)
-all-born moment begins ends k m n (entry.Call pid number r more ∷ entries) le = grind (arith, nat_tests, born-call (number == EXIT) ((number == FORK) && is_success r) m pid r n (omega (arith, grows-all entries (greatest_after (entry.Call pid number r more) m), le)), all-born moment begins ends (k + 1) (greatest_after (entry.Call pid number r more) m) n entries le)
+all-born moment begins ends k m n (entry.Call pid number r more ∷ entries) le = grind (arith, nat_tests, born-call (number == EXIT) (child_called number r more) m pid n (omega (arith, grows-all entries (greatest_after (entry.Call pid number r more) m), le)), all-born moment begins ends (k + 1) (greatest_after (entry.Call pid number r more) m) n entries le)
 all-born moment begins ends k m n (e ∷ entries) le = happened-born _ n k e _ tt (all-born moment begins ends (k + 1) m n entries le)
 
 live-made : (before : List Record) (pid : ℕ) → not (lives_at before (total before) pid) ≡ false → pid ≤ greatest before

@@ -1,8 +1,9 @@
 -- What stands behind a list of records that isn't broken.
 use Rattle.std.proofs.lemmas.Grind.{common_steps}
 use Rattle.std.proofs.lemmas.Bool.Decides.{nat_tests}
-use Rattle.std.proofs.Common.{◌≡◌, ◌<◌, ◌≤◌, ℕ, zero, suc, ◌+◌, ◌*◌, ◌==◌, ◌&&◌, not, nat_le, max, Bool, true, false, if◌then◌else◌, List, [], ◌∷◌, ◌++◌, length, take, get_or, Option, Some, None, IfSome, refl, ap, sym, subst, ◌∙◌, append_assoc, arith, All, append-nil}
+use Rattle.std.proofs.Common.{◌≡◌, ◌<◌, ◌≤◌, ℕ, zero, suc, ◌+◌, ◌*◌, ◌&&◌, not, nat_le, max, Bool, true, false, if◌then◌else◌, List, [], ◌∷◌, ◌++◌, length, take, get_or, Option, Some, None, IfSome, refl, ap, sym, subst, ◌∙◌, append_assoc, arith, All, append-nil}
 use Rattle.std.proofs.lemmas.Bool.{and_parts, eqb-true, leb-true, or_parts, not-false}
+use Rattle.std.specs.Option.{option_map_or}
 use Rattle.std.proofs.Math.Seq.{take-nil}
 use Rattle.std.proofs.lemmas.List.Elements.{All-cons, All-nil}
 use Rattle.std.proofs.lemmas.List.Folds.{list_any-append}
@@ -10,9 +11,7 @@ use Rattle.arn_base.specs.declared.machine.Block.{Block}
 use Rattle.arn_base.specs.declared.records.Record.{Record}
 use Rattle.arn_base.specs.declared.records.Record.TheVariants as entry
 use Rattle.arn_base.specs.declared.records.Start.{Start}
-use Rattle.parts_model.specs.declared.calls.TheConstants.{FORK}
 use Rattle.parts_model.specs.declared.limits.TheConstants.{BLOCK_LEN, WINDOW_LEN}
-use Rattle.parts_model.specs.Replies.{is_success}
 use Rattle.acts_model.specs.Records.{give_of}
 use Rattle.guest_bodies.specs.Shown.{IsInside}
 use Rattle.history_model.specs.Broken as broken
@@ -101,14 +100,14 @@ greatest-append (x ∷ before) after n = greatest-append before after (greatest_
 number-is : (n : ℕ) (o : Option ℕ) (before : List Record) → n ≡ greatest before → misnumbers before o ≡ false → IfSome o (λ (c : ℕ). c ≡ n + 1)
 number-is n o before h1 h2 = grind (arith, common_steps, nat_tests, eqb-true, not-false)
 
-if-after : (makes : Bool) (n r : ℕ) → IfSome (if makes then Some r else None) (λ (c : ℕ). c ≡ n + 1) → (if makes then max n r else n) ≤ n + 1
-if-after true n r is = omega (arith, is)
-if-after false n r is = omega arith
+if-after : (child : Option ℕ) (n : ℕ) → IfSome child (λ (c : ℕ). c ≡ n + 1) → option_map_or (max n) child n ≤ n + 1
+if-after (Some c) n is = omega (arith, is)
+if-after None n is = omega arith
 
 -- each record makes one process at most
 after-few : (before : List Record) (e : Record) (n : ℕ) → n ≡ greatest before → Follows before e → greatest_after e n ≤ n + 1
-after-few before (entry.Call pid number result more) n is f = if-after ((number == FORK) && is_success result) n result (number-is n (child_in (entry.Call pid number result more)) before is f.numbers)
-after-few before _ n is f = omega arith
+after-few before (entry.Boot name give) n is f = omega arith
+after-few before e n is f = if-after (child_in e) n (number-is n (child_in e) before is f.numbers)
 
 pub greatest-few : (before after : List Record) (i m : ℕ) → broken_from before after ≡ None → greatest before ≤ m → greatest (before ++ take i after) ≤ m + i
 greatest-few before [] i m none few = let is = ap greatest (ap (λ (es : List Record). before ++ es) (take-nil i) ∙ append-nil before) in omega (arith, is, few)

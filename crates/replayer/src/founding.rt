@@ -13,25 +13,17 @@ ghost use Rattle.replayer.specs.Foundings.{Begins, event_behind};
 ghost use Rattle.replayer.specs.Parts.{LivesIn};
 
 use crate::ReplayError;
-use acts_model::{Observer, is_success};
-use arn_base::{Extra, Record, Start};
+use acts_model::{Observer, child_told};
+use arn_base::{Record, Start};
 use guest_bodies::Bodies;
 use history_index::Index;
-use parts_model::calls::FORK;
 
 // With what the group's first process begins, if a record tells it.
 fn start_of(group: u32, entry: &Record) -> Option<&Start>
     ensures { option_map (λ start. start.now) result ≡ foundings.start_of group entry.now }
 {
-    match entry {
-        Record::Call {
-            number,
-            result,
-            extra: Extra::Start(start),
-            ..
-        } if *number == FORK && is_success(*result) && *result == u64::from(group) => {
-            Some(start.get())
-        }
+    match child_told(entry) {
+        Some(child) if child.number == u64::from(group) => child.start,
         _ => None,
     }
 }

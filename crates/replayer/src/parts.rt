@@ -3,7 +3,6 @@ ghost use Rattle.std.specs.Prelude.{◌≡◌, ◌+◌, ◌<◌, ◌≤◌, ◌^
 ghost use Rattle.arn_base.specs.declared.machine.Cpu.{Cpu};
 ghost use Rattle.arn_base.specs.declared.records.Record.TheVariants as kind;
 ghost use Rattle.acts_model.specs.Moved.{is_call_or_end};
-ghost use Rattle.acts_model.specs.Records.{is_event};
 ghost use Rattle.acts_model.specs.Told.{act_of};
 ghost use Rattle.history_model.specs.Alone as alone;
 ghost use Rattle.history_model.specs.Alone.{Makes, Own};
@@ -16,7 +15,7 @@ ghost use Rattle.replay_steps.specs.Standing.{Explains, GainsOnly, IsStanding, K
 ghost use Rattle.replayer.specs.Parts.{LivesIn, made_after, part_after, part_len, part_made, part_of, turn_after};
 
 use crate::ReplayError;
-use acts_model::Observer;
+use acts_model::{Observer, is_event};
 use arn_base::{Record, Steps};
 use guest_bodies::Bodies;
 use history_index::SliceAt;
@@ -228,12 +227,6 @@ impl Part {
     }
 }
 
-fn is_slice(entry: &Record) -> bool
-    ensures { is_event entry.now ≡ not result }
-{
-    matches!(entry, Record::Slice { .. })
-}
-
 // Where the next slice stands, or the records end.
 fn part_end(entries: &[Record], from: usize) -> usize
     requires { from ≤ length entries.now }
@@ -241,7 +234,7 @@ fn part_end(entries: &[Record], from: usize) -> usize
     ensures inside { result ≤ length entries.now }
 {
     for place in from..entries.len() {
-        if is_slice(&entries[place]) {
+        if !is_event(&entries[place]) {
             return place;
         }
     }

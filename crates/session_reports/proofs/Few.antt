@@ -1,12 +1,11 @@
 -- 32 bits count the processes of a history.
-use Rattle.std.proofs.Common.{◌≡◌, inl, inr, ℕ, zero, suc, ◌+◌, ◌<◌, ◌≤◌, ◌^◌, ◌==◌, ◌&&◌, nat_le, Bool, true, false, not, if◌then◌else◌, List, [], ◌∷◌, ◌++◌, length, max, Some, None, is_some, refl, ap, sym, slice_get, ◌∙◌, arith, length-append}
+use Rattle.std.proofs.Common.{◌≡◌, inl, inr, ℕ, zero, suc, ◌+◌, ◌<◌, ◌≤◌, ◌^◌, ◌&&◌, nat_le, Bool, true, false, not, if◌then◌else◌, List, [], ◌∷◌, ◌++◌, length, max, Option, Some, None, is_some, refl, ap, sym, slice_get, ◌∙◌, arith, length-append}
+use Rattle.std.specs.Option.{option_map_or}
 use Rattle.std.proofs.lemmas.Bool.{true≢false, or_parts, and_right}
 use Rattle.std.proofs.lemmas.Bool.Decides.{eqb_tells, nat_tests}
 use Rattle.std.proofs.lemmas.Option.{none-some}
 use Rattle.arn_base.specs.declared.records.Record.{Record}
 use Rattle.arn_base.specs.declared.records.Record.TheVariants as entry
-use Rattle.parts_model.specs.declared.calls.TheConstants.{FORK}
-use Rattle.parts_model.specs.Replies.{is_success}
 use Rattle.acts_model.specs.Records.{give_of}
 use Rattle.history_index.specs.Indexes.{AreCountable, Indexes}
 use Rattle.history_index.specs.Tables.{Tables}
@@ -19,14 +18,14 @@ use Rattle.parts_model.specs.declared.limits.TheConstants.{MOST_ASKED}
 use Rattle.replay_groups.specs.Groups.{group_at}
 
 -- a record that can follow makes at most one process
-made-one : (before : List Record) (b : Bool) (result : ℕ) → misnumbers before (if b then Some result else None) ≡ false → (if b then max (greatest before) result else greatest before) ≤ greatest before + 1
-made-one before true result h =
-    elim (eqb_tells result (greatest before + 1)) [ inl is ↦ omega (arith, is.1) | inr apart ↦ absurd (true≢false (rw apart.0 at h)) ]
-made-one before false result h = omega arith
+made-one : (before : List Record) (child : Option ℕ) → misnumbers before child ≡ false → option_map_or (max (greatest before)) child (greatest before) ≤ greatest before + 1
+made-one before (Some c) h =
+    elim (eqb_tells c (greatest before + 1)) [ inl is ↦ omega (arith, is.1) | inr apart ↦ absurd (true≢false (rw apart.0 at h)) ]
+made-one before None h = omega arith
 
 after-one : (before : List Record) (e : Record) → misnumbers before (child_in e) ≡ false → greatest_after e (greatest before) ≤ greatest before + 1
-after-one before (entry.Call pid number result more) h = made-one before ((number == FORK) && is_success result) result h
-after-one before _ h = omega arith
+after-one before (entry.Boot name give) h = omega arith
+after-one before e h = made-one before (child_in e) h
 
 last : (entries : List Record) (n : ℕ) (e : Record) → greatest_from n (entries ++ e ∷ []) ≡ greatest_after e (greatest_from n entries)
 last [] n e = refl

@@ -2,22 +2,15 @@
 ghost use Rattle.std.specs.Prelude.{◌≡◌, ◌++◌, IfOk, List, OnErr, OnOk, Some};
 ghost use Rattle.std.specs.String.{string_bytes};
 ghost use Rattle.arn_base.specs.declared.records.Record.{Record};
-ghost use Rattle.acts_model.specs.Records as records;
 ghost use Rattle.history_model.specs.Events.{event_at};
 ghost use Rattle.history_index.specs.Indexes.{Indexes};
 ghost use Rattle.session_reports.specs.Events.{event_text, events_text};
 
+use acts_model::is_event;
 use arn_base::{NoMemory, Record};
 use history_index::Index;
 use report_texts::{push_event_line, push_events};
 use std::alloc::Global;
-
-// Every record is an event but a slice.
-fn is_event(entry: &Record) -> bool
-    ensures { result ≡ records.is_event entry.now }
-{
-    !matches!(entry, Record::Slice { .. })
-}
 
 fn push_one(lines: &mut String, index: &Index, event: u64, entry: &Record) -> Result<(), NoMemory>
     ensures { OnOk result ((entries : List Record) → Indexes index.now entries →

@@ -2,22 +2,24 @@
 use Rattle.std.proofs.Common.{◌≡◌, ℕ, zero, suc, ◌+◌, ◌≤◌, ◌==◌, ◌&&◌, not, if◌then◌else◌, max, length, All, Bool, true, false, List, [], ◌∷◌, ◌++◌, Option, Some, None, IfSome, refl, sym, ap, subst, ◌∙◌, arith}
 use Rattle.std.proofs.lemmas.Bool.Decides.{nat_tests}
 use Rattle.std.proofs.lemmas.Bool.{eqb-true, and_parts}
+use Rattle.std.specs.Option.{option_map_or}
 use Rattle.arn_base.specs.declared.machine.Cpu.{Cpu}
 use Rattle.arn_base.specs.declared.records.Extra.{Extra}
 use Rattle.arn_base.specs.declared.records.Give.{Give}
-use Rattle.arn_base.specs.declared.records.Extra.TheVariants as extra
 use Rattle.arn_base.specs.declared.records.Record.{Record}
 use Rattle.arn_base.specs.declared.records.Record.TheVariants as entry
+use Rattle.parts_model.specs.declared.calls.TheConstants.{FORK}
+use Rattle.parts_model.specs.Replies.{is_success}
 use Rattle.acts_model.specs.Acts.{Act, unborn}
 use Rattle.acts_model.specs.Bodies.{View, put, seen}
 use Rattle.acts_model.specs.Disagreement.{Wrong, wrong_with}
-use Rattle.acts_model.specs.Records.{process_of}
+use Rattle.acts_model.specs.Records.{child_forked, child_number, is_founder, process_of}
 use Rattle.acts_model.specs.Told.{act_of}
 use Rattle.acts_model.specs.Views.{stands_at}
 use Rattle.history_model.specs.Alone as alone
 use Rattle.history_model.specs.Alone.{Own, Made, Makes, Fails, Slice, Standing, act_done, after_boot, after_last, after_record, after_signal, after_slice, and_then, at_first, begins_by, boots, ends_slice, happens, made_if, no_instruction, plain_in, plain_or, plains, record_seen, replayed, settled, slice_of, unless_wrong}
 use Rattle.history_model.specs.Broken.{Behind, Nowhere, ASlice, ADelivery, behind, behind_from, behind_record, behind_signal, broken_from, cant_follow, greatest, greatest_after, greatest_from, is_behind}
-use Rattle.history_model.specs.Groups.{Groups, group_forked, groups_told, is_number}
+use Rattle.history_model.specs.Groups.{Groups, child_group, group_made, groups_told, is_number}
 use Rattle.history_model.specs.Moments.{changed}
 use Rattle.taint_state.specs.Steps.{Holders}
 use Rattle.taint_laws.specs.Follows.{with_booted}
@@ -108,12 +110,19 @@ founded-later n m groups h1 h2 = grind (arith, nat_tests)
 changed-founded : (n : ℕ) (groups : Groups) (child : ℕ) (o : Option ℕ) → IfSome o (λ m. m ≤ n) → AreFounded n groups → AreFounded n (changed groups child o)
 changed-founded n groups child o h1 h2 = grind (arith, nat_tests)
 
-forked-founded : (n pid child : ℕ) (more : Extra) (groups : Groups) → child ≤ n → AreFounded n groups → AreFounded n (group_forked pid child more groups)
-forked-founded n pid child (extra.Start start) groups le h = changed-founded n groups child (Some child) le h
-forked-founded n pid child more groups le h = changed-founded n groups child (groups pid) (h pid) h
+forked-founded : (n pid child : ℕ) (more : Extra) (groups : Groups) → child ≤ n → AreFounded n groups → AreFounded n (group_made pid (Some (child_forked child more)) groups)
+forked-founded n pid child more groups le h = changed-founded n groups child (child_group (child_forked child more) (groups pid)) (by_test (is_founder (child_forked child more))) h
+  where
+    by_test : (b : Bool) → IfSome (if b then Some child else groups pid) (λ m. m ≤ n)
+    by_test true = le
+    by_test false = h pid
 
 called-founded : (n pid number result : ℕ) (more : Extra) (groups : Groups) → AreFounded n groups → AreFounded (greatest_after (entry.Call pid number result more) n) (groups_told (entry.Call pid number result more) groups)
-called-founded n pid number result more groups h1 = grind (arith, nat_tests, forked-founded, founded-later)
+called-founded n pid number result more groups h = by_test ((number == FORK) && is_success result)
+  where
+    by_test : (b : Bool) → AreFounded (option_map_or (max n) (child_number (if b then Some (child_forked result more) else None)) n) (group_made pid (if b then Some (child_forked result more) else None) groups)
+    by_test true = forked-founded (max n result) pid result more groups (omega arith) (founded-later n (max n result) groups (omega arith) h)
+    by_test false = h
 
 -- a standing behind records: where the open slice is, and the greatest number of a process
 record Reached (b : Behind) (most : ℕ) (t : Standing) : Type 0 where

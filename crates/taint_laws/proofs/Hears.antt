@@ -7,21 +7,22 @@ use Rattle.arn_base.specs.declared.records.Extra.{Extra}
 use Rattle.arn_base.specs.declared.records.Extra.TheVariants as extra
 use Rattle.arn_base.specs.declared.records.Record.{Record}
 use Rattle.arn_base.specs.declared.records.Record.TheVariants as entry
-use Rattle.rv64_model.specs.Instruction.{Effect, Call, End}
+use Rattle.arn_base.specs.declared.records.Start.{Start}
+use Rattle.rv64_model.specs.Instruction.{Effect}
 use Rattle.parts_model.specs.declared.calls.TheConstants as number
 use Rattle.parts_model.specs.Replies.{is_success}
 use Rattle.acts_model.specs.Acts.{Act, Returns, Forks, Founds, unborn}
 use Rattle.acts_model.specs.Bodies.{View, put, seen}
 use Rattle.acts_model.specs.Disagreement.{Wrong, wrong_with}
 use Rattle.acts_model.specs.Moved.{Event, Inside}
-use Rattle.acts_model.specs.Records.{event_len}
+use Rattle.acts_model.specs.Records.{child_called, child_forked, child_founded, event_len}
 use Rattle.acts_model.specs.Told.{Kind, Fork, Exec, Wait, Read, Write, act_of, call_act, kind_of}
 use Rattle.acts_model.specs.Transfers.{Holds, Transfer, holds_of, transfer}
 use Rattle.acts_model.specs.Views.{stands_at}
 use Rattle.history_model.specs.Alone as alone
 use Rattle.history_model.specs.Alone.{Own, Makes, Slice, Standing, act_done, after_record, at_first, begins_by, boots, ends_slice, happens, plain_by, plain_in, plain_or, plains, record_done, record_seen, replayed, settled, slice_of, unless_wrong}
 use Rattle.history_model.specs.Events.{events}
-use Rattle.history_model.specs.Exchanges.{call_founded, founded}
+use Rattle.history_model.specs.Exchanges.{founded}
 use Rattle.history_model.specs.Groups.{is_number}
 use Rattle.taint_state.specs.Goes.{Hearing, Hearings, heard_after}
 use Rattle.taint_state.specs.Steps.{founds}
@@ -43,12 +44,13 @@ module _ (pid event : ℕ) (holds : Holds) where
   neither true x y h k f = let clash : true ≡ false = sym f ∙ h in cc
   neither false x y h k f = let clash : true ≡ false = sym f ∙ k in cc
 
-  fork-founded : (n result : ℕ) (more : Extra) → (n == number.FORK) ≡ true → (b : Bool) → is_success result ≡ b → (start : Extra) → Founding (if b then Founds result else Returns result) → IsSome (if (n == number.FORK) && is_success result then Some result else None)
-  fork-founded n result more is true s start f = subst (λ (b : Bool). IsSome (if b then Some result else None)) (sym (and_from (n == number.FORK) (is_success result) is s)) refl
-  fork-founded n result more is false s start f = absurd (cc)
+  fork-founded : (n result : ℕ) (start : Start) → (n == number.FORK) ≡ true → (b : Bool) → is_success result ≡ b → Founding (if b then Founds result else Returns result) → IsSome (child_founded (child_called n result (extra.Start start)))
+  fork-founded n result start is true s f =
+      subst (λ (b : Bool). IsSome (child_founded (if b then Some (child_forked result (extra.Start start)) else None))) (sym (and_from (n == number.FORK) (is_success result) is s)) refl
+  fork-founded n result start is false s f = absurd (cc)
 
-  fork-one : (n : ℕ) (cpu : Cpu) (result : ℕ) (more : Extra) → (n == number.FORK) ≡ true → Founding (call_act Fork cpu result more) → IsSome (call_founded n result more)
-  fork-one n cpu result (extra.Start start) is f = fork-founded n result (extra.Start start) is (is_success result) refl (extra.Start start) f
+  fork-one : (n : ℕ) (cpu : Cpu) (result : ℕ) (more : Extra) → (n == number.FORK) ≡ true → Founding (call_act Fork cpu result more) → IsSome (child_founded (child_called n result more))
+  fork-one n cpu result (extra.Start start) is f = fork-founded n result start is (is_success result) refl f
   fork-one n cpu result more is f = absurd (neither (is_success result) (Forks result) (Returns result) refl refl f)
 
   exec-none : (cpu : Cpu) (result : ℕ) (more : Extra) → Founding (call_act Exec cpu result more) → ⊥
@@ -65,7 +67,7 @@ module _ (pid event : ℕ) (holds : Holds) where
   write-none : (cpu : Cpu) (result : ℕ) (more : Extra) → Founding (call_act Write cpu result more) → ⊥
   write-none cpu result more h1 = grind (arith, nat_tests, neither)
 
-  call-one : (n : ℕ) (kind : Kind) (cpu : Cpu) (result : ℕ) (more : Extra) → (kind ≡ Fork → (n == number.FORK) ≡ true) → Founding (call_act kind cpu result more) → IsSome (call_founded n result more)
+  call-one : (n : ℕ) (kind : Kind) (cpu : Cpu) (result : ℕ) (more : Extra) → (kind ≡ Fork → (n == number.FORK) ≡ true) → Founding (call_act kind cpu result more) → IsSome (child_founded (child_called n result more))
   call-one n kind cpu result more h1 h2 = grind (arith, nat_tests, exec-none, fork-one, neither, read-none, wait-none, write-none)
 
   founding-founded : (cpu : Cpu) (e : Record) (a : Act) → act_of cpu e ≡ Some a → Founding a → IsSome (founded e)

@@ -1,5 +1,6 @@
 -- What the checks of a list of records say of one record: its process, the child that it tells of, and how a group begins.
-use Rattle.std.proofs.Common.{◌≡◌, ℕ, ◌+◌, ◌≤◌, ◌==◌, ◌&&◌, not, if◌then◌else◌, max, length, Bool, true, false, List, Option, Some, None, IfSome, refl, sym, subst, ◌∙◌, arith}
+use Rattle.std.proofs.Common.{◌≡◌, ℕ, ◌+◌, ◌≤◌, ◌==◌, ◌&&◌, not, if◌then◌else◌, max, length, Bool, true, false, List, Option, Some, None, IfSome, refl, sym, ap, subst, ◌∙◌, arith}
+use Rattle.std.specs.Option.{option_map_or}
 use Rattle.std.proofs.lemmas.Bool.Decides.{nat_tests}
 use Rattle.std.proofs.lemmas.Bool.{eqb-true, or_parts}
 use Rattle.arn_base.specs.declared.machine.Cpu.{Cpu}
@@ -8,13 +9,13 @@ use Rattle.arn_base.specs.declared.records.Extra.TheVariants as extra
 use Rattle.arn_base.specs.declared.records.Record.{Record}
 use Rattle.arn_base.specs.declared.records.Record.TheVariants as entry
 use Rattle.arn_base.specs.declared.records.Start.{Start}
-use Rattle.parts_model.specs.declared.calls.TheConstants as number
 use Rattle.parts_model.specs.declared.calls.TheConstants.{FORK}
 use Rattle.parts_model.specs.declared.limits.TheConstants.{WINDOW_LEN}
 use Rattle.parts_model.specs.Replies.{is_success}
 use Rattle.acts_model.specs.Acts.{Act, Delivers, Dies, beginning_in}
+use Rattle.acts_model.specs.Records.{child_called, child_forked, child_number, child_start, start_held}
 use Rattle.acts_model.specs.Told.{Kind, Fork, Exec, Wait, Sigreturn, Read, Write, Shm, Other, kind_of, call_act, act_of}
-use Rattle.history_model.specs.Alone.{Own, Made, Makes, Fails, begins, begins_by, begins_if, call_start}
+use Rattle.history_model.specs.Alone.{Own, Made, Makes, Fails, begins, begins_by, begins_if}
 use Rattle.history_model.specs.Broken.{cant_follow, child_in, greatest, greatest_after, has_blocks_wrong, lacks_slice, misnumbers, start_in}
 use Rattle.window_laws.specs.Blocks.{HasWholeBlocks}
 use Rattle.taint_laws.proofs.Rooms.{blocks-room, zeros-len}
@@ -88,8 +89,8 @@ call-child : (before : List Record) (pid number result : ℕ) (more : Extra) (cp
     → IsChild (greatest before) (greatest_after (entry.Call pid number result more) (greatest before)) (call_act (kind_of number) cpu result more)
 call-child before pid number result more cpu m = by_tests (number == FORK) (is_success result) refl refl m
   where
-    by_tests : (t s : Bool) → (number == FORK) ≡ t → is_success result ≡ s → misnumbers before (if t && s then Some result else None) ≡ false
-        → IsChild (greatest before) (if t && s then max (greatest before) result else greatest before) (call_act (kind_of number) cpu result more)
+    by_tests : (t s : Bool) → (number == FORK) ≡ t → is_success result ≡ s → misnumbers before (child_number (if t && s then Some (child_forked result more) else None)) ≡ false
+        → IsChild (greatest before) (option_map_or (max (greatest before)) (child_number (if t && s then Some (child_forked result more) else None)) (greatest before)) (call_act (kind_of number) cpu result more)
     by_tests true true e f k =
         kind-child (greatest before) (max (greatest before) result) cpu (kind_of number) result more
         (λ q. fork-child (greatest before) true cpu result more f (λ r. eqb-true result (greatest before + 1) (un-not (result == greatest before + 1) k)))
@@ -108,15 +109,22 @@ record-child before (entry.Slice pid ran) m cpu = tt
 
 -- a group begins, or nothing happens
 
-start-ends : (P : Own → Type 0) (g event pid number result : ℕ) (more : Extra) (start : Start) (own : Own) (b : Bool) → ((number == FORK) && is_success result) ≡ b
-    → P own → (child_in (entry.Call pid number result more) ≡ Some g → P (begins g event (entry.Call pid number result more) start own))
-    → Ends P (begins_if g result event (entry.Call pid number result more) (if b then Some start else None) own)
-start-ends P g event pid number result more start own b h1 h2 h3 = grind (arith, nat_tests, eqb-true)
-
 call-ends : (P : Own → Type 0) (g event pid number result : ℕ) (more : Extra) (own : Own)
     → P own → ((start : Start) → start_in (entry.Call pid number result more) ≡ Some start → child_in (entry.Call pid number result more) ≡ Some g → P (begins g event (entry.Call pid number result more) start own))
-    → Ends P (begins_if g result event (entry.Call pid number result more) (call_start number result more) own)
-call-ends P g event pid number result more own h1 h2 = grind (arith, nat_tests, start-ends)
+    → Ends P (begins_if g result event (entry.Call pid number result more) (child_start (child_called number result more)) own)
+call-ends P g event pid number result more own here begin = by_test ((number == FORK) && is_success result) (start_held more) refl refl
+  where
+    by_number : (start : Start) (b : Bool) → start_held more ≡ Some start → ((number == FORK) && is_success result) ≡ true → (result == g) ≡ b
+        → Ends P (if b then Makes (begins g event (entry.Call pid number result more) start own) else Makes own)
+    by_number start true held made same =
+        begin start held (ap (λ (b : Bool). child_number (if b then Some (child_forked result more) else None)) made ∙ ap (λ (n : ℕ). Some n) (eqb-true result g same))
+    by_number start false held made same = here
+
+    by_test : (b : Bool) (o : Option Start) → ((number == FORK) && is_success result) ≡ b → start_held more ≡ o
+        → Ends P (begins_if g result event (entry.Call pid number result more) (child_start (if b then Some (record { number = result; start = o }) else None)) own)
+    by_test false o made held = here
+    by_test true None made held = here
+    by_test true (Some start) made held = by_number start (result == g) held made refl
 
 pub begins-ends : (P : Own → Type 0) (g event : ℕ) (e : Record) (own : Own) → P own → ((start : Start) → start_in e ≡ Some start → child_in e ≡ Some g → P (begins g event e start own)) → Ends P (begins_by g event e own)
 begins-ends P g event e own h1 h2 = grind (arith, nat_tests, call-ends)

@@ -1,6 +1,7 @@
 -- What an event does to how many processes have been made, as its record tells; and how a child begins.
 use Rattle.std.proofs.lemmas.Bool.Decides.{nat_tests}
-use Rattle.std.proofs.Common.{◌≡◌, ℕ, zero, suc, ◌+◌, ◌*◌, ◌/◌, ◌≤◌, ◌==◌, nat_le, ◌&&◌, not, Bool, true, false, cond, List, [], ◌∷◌, ◌++◌, length, Option, Some, None, IfSome, refl, sym, ap, subst, ◌∙◌, append-nil, arith}
+use Rattle.std.proofs.Common.{◌≡◌, ℕ, zero, suc, ◌+◌, ◌*◌, ◌/◌, ◌≤◌, ◌==◌, nat_le, ◌&&◌, not, Bool, true, false, cond, if◌then◌else◌, List, [], ◌∷◌, ◌++◌, length, max, Option, Some, None, IfSome, is_some, refl, sym, ap, subst, ◌∙◌, append-nil, arith}
+use Rattle.std.specs.Option.{option_map_or}
 use Rattle.std.proofs.lemmas.Bool.{le-leb, lt-ltb, and_from, and_left, and_right}
 use Rattle.arn_base.specs.declared.machine.Block.{Block}
 use Rattle.arn_base.specs.declared.records.Extra.{Extra}
@@ -14,6 +15,7 @@ use Rattle.parts_model.specs.Blocks.{block_of, is_used, used_block, used_blocks,
 use Rattle.parts_model.specs.Replies.{Answered, is_success}
 use Rattle.acts_model.specs.Acts.{result_of}
 use Rattle.acts_model.specs.Bodies.{View}
+use Rattle.acts_model.specs.Records.{child_forked, child_number, start_held}
 use Rattle.acts_model.specs.Views.{call_number}
 use Rattle.arn_model.specs.Doing.{Doing}
 use Rattle.arn_model.specs.Kernel.{Machine}
@@ -83,7 +85,14 @@ start-rises v pid number result (extra.Start start) l h = ap (λ (s : Start). no
 start-rises v pid number result more l h = refl
 
 one-made : (v : View) (pid number result : ℕ) (more : Extra) (before after : ℕ) → length v.window ≤ WINDOW_LEN → IsStartOf v more → result ≡ before + 1 → after ≡ before + 1 → ((number == FORK) && is_success result) ≡ true → Counted before after (entry.Call pid number result more)
-one-made v pid number result more before after h1 h2 h3 h4 h5 = grind (arith, nat_tests, and_right, start-rises)
+one-made v pid number result more before after small is one many made =
+    let child = λ (b : Bool). child_number (if b then Some (child_forked result more) else None) in
+    record {
+      grows = ap (λ (b : Bool). option_map_or (max before) (child b) before) made ∙ omega (arith, one, many);
+      child = subst (λ (b : Bool). IfSome (child b) (λ c. c ≡ before + 1)) (sym made) one;
+      start = ap (λ (b : Bool). is_some (start_held more) && not (is_some (child b))) made ∙ and_right (is_some (start_held more)) false refl;
+      blocks = start-rises v pid number result more small is;
+    }
 
 and-next : (a b c : Bool) → a ≡ true → b ≡ c → (a && b) ≡ c
 and-next a b c e f = ap (λ (x : Bool). x && b) e ∙ f

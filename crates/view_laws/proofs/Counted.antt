@@ -1,19 +1,20 @@
 -- How many instructions a group does.
 use Rattle.std.proofs.lemmas.Bool.Decides.{nat_tests}
-use Rattle.std.proofs.Common.{◌≡◌, ℕ, ◌+◌, ◌-◌, ◌≤◌, ◌&&◌, ◌==◌, Bool, true, false, cond, not, if◌then◌else◌, List, [], ◌∷◌, count_by, Option, Some, None, refl, sym, ap, ◌∙◌, arith}
+use Rattle.std.proofs.Common.{◌≡◌, ℕ, ◌+◌, ◌≤◌, ◌&&◌, ◌==◌, Bool, true, false, cond, not, if◌then◌else◌, List, [], ◌∷◌, count_by, Option, Some, None, refl, sym, ap, ◌∙◌, arith}
 use Rattle.std.proofs.lemmas.List.Sums.{sum_by-append, sum_by-cons}
 use Rattle.arn_base.specs.declared.records.Record.{Record}
 use Rattle.arn_base.specs.declared.records.Record.TheVariants as entry
 use Rattle.arn_base.specs.declared.records.Start.{Start}
 use Rattle.acts_model.specs.Acts as act
 use Rattle.acts_model.specs.Moved.{Event, Inside, is_instruction}
+use Rattle.acts_model.specs.Records.{child_called, child_start}
 use Rattle.acts_model.specs.Transfers.{Holds, transfer}
 use Rattle.arn_model.specs.Kernel.{Machine, at_first}
 use Rattle.arn_model.specs.Laws.{StepsTell}
 use Rattle.arn_model.specs.Run.{Input, instructions_in, machine_after, run, unless_reached, within}
 use Rattle.arn_model.specs.Step.{Step}
 use Rattle.arn_model.specs.Tells.{Along, HasNumbers, StepTells}
-use Rattle.history_model.specs.Alone.{begin_inside, call_start}
+use Rattle.history_model.specs.Alone.{begin_inside}
 use Rattle.history_model.specs.Groups.{Groups, count_from, count_of, group_of}
 use Rattle.history_model.specs.Moments.{total}
 use Rattle.log_model.specs.Records.{records}
@@ -70,7 +71,7 @@ begin-if g child event e None = refl
 begin-if g child event e (Some start) = begin-none g child event e (child == g) start
 
 begin-by : (g event : ℕ) (e : Record) → counted (begin_by g event e) ≡ 0
-begin-by g event (entry.Call pid number result more) = begin-if g result event (entry.Call pid number result more) (call_start number result more)
+begin-by g event (entry.Call pid number result more) = begin-if g result event (entry.Call pid number result more) (child_start (child_called number result more))
 begin-by g event _ = refl
 
 begin-part : (g : ℕ) (o : Option Event) → counted (begin_part g o) ≡ 0
