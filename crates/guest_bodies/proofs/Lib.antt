@@ -6,16 +6,14 @@ pub mod Ends
 pub mod Forks
 pub mod Fresh
 pub mod Holders
-pub mod HeldTold
 pub mod Images
 pub mod InPlace
+pub mod Keyed
 pub mod Laid
 pub mod Later
 pub mod Led
-pub mod Lent
 pub mod Lone
 pub mod Many
-pub mod Moves
 pub mod Numbers
 pub mod Places
 pub mod Puts
@@ -24,5 +22,4 @@ pub mod Seen
 pub mod Shares
 pub mod Spelled
 pub mod Starts
-pub mod Tolds
 pub mod Unheld

@@ -1,91 +1,209 @@
 -- A process that runs many instructions, among others.
-use Rattle.std.proofs.Common.{◌≡◌, ℕ, zero, suc, List, set, Option, Some, IsSome, is_some, option_map, refl, sym, ap, subst, ◌∙◌}
+use Rattle.std.proofs.Common.{◌≡◌, ℕ, zero, suc, List, [], ◌∷◌, set, Option, Some, None, IsSome, is_some, option_map, unwrap_or, refl, sym, ap, ap₂, subst, ◌∙◌}
 use Rattle.std.proofs.lemmas.List.{set-set}
-use Rattle.parts_model.specs.Numbered.{nth}
+use Rattle.arn_base.specs.Window.{Window}
+use Rattle.arn_base.specs.declared.machine.Cpu.{Cpu}
 use Rattle.acts_model.specs.Bodies.{View, put}
-use Rattle.acts_model.specs.Views.{reach, with_cpu, with_reach}
-use Rattle.rv64_core.specs.declared.outcome.Outcome.TheVariants as outcome
-use Rattle.guest_bodies.specs.Follows.{Follows, KeepsWatches, Ran}
-use Rattle.guest_bodies.specs.Kept.{Segments, held_bytes, view_of, watch_of, shown_of, shown_all, AllHeld, IsSound}
-use Rattle.guest_bodies.specs.Running.{MovesAnother, MovesMany, RanMany}
-use Rattle.guest_bodies.specs.Shown.{Guests, seen_in}
+use Rattle.acts_model.specs.Views.{reach, stands_at, with_cpu, with_reach}
+use Rattle.parts_model.specs.Memory.{windows}
+use Rattle.parts_model.specs.Numbered.{nth}
+use Rattle.rv64_core.specs.Outcome.{LeadsTo}
+use Rattle.rv64_isa.specs.declared.instruction.Instr.{Instr}
+use Rattle.rv64_model.specs.Instruction.{Effect, instruction}
+use Rattle.guest_bodies.specs.Follows.{Follows, KeepsWatches}
+use Rattle.guest_bodies.specs.Kept.{AreThere, Contents, IsSound, body_of, contents_of, refilled, shown_all, shown_of, view_of, window_part, windows_for}
+use Rattle.guest_bodies.specs.Led.{LedMany}
+use Rattle.guest_bodies.specs.Running.{LeadsMany, RanMany}
+use Rattle.guest_bodies.specs.Shown.{Guests, Shown, seen_in}
+use Rattle.guest_bodies.specs.Tables.{IfHeld, Table, Tables, held_bytes, with_held}
+use Rattle.guest_bodies.specs.Told.{ToldMany}
 use Rattle.guest_bodies.specs.declared.guest.Guest.{Guest}
-use Rattle.guest_bodies.proofs.Changes.{set-changes, seen-shown, same-shown, stays-seen}
-use Rattle.guest_bodies.proofs.InPlace.{Place, in_place-kept, in_place-sound, moved-kept, moved-sound, moved-put, moved-watches, reach-back}
-use Rattle.guest_bodies.proofs.Numbers.{IsSome-within, nth-map, nth-set}
+use Rattle.guest_bodies.specs.declared.guest.Held.{Held}
+use Rattle.guest_bodies.proofs.Changes.{same-shown, seen-shown, there-of}
+use Rattle.guest_bodies.proofs.InPlace.{Place, moved-put, moved-sound, moved-watches, place, some-there}
+use Rattle.guest_bodies.proofs.Numbers.{IsSome-within, nth-map, nth-set, set-nth}
 
-module _ (guests : Guests) (all : List (Option Guest)) (segs : Segments) (p : ℕ) (g : Guest) (shown : shown_all all segs ≡ guests) (sound : IsSound all segs) (stands : nth all p ≡ Some g) where
-  there : IsSome (nth all p)
-  there = ap is_some stands
+-- the bytes of the first window, and of the second
+abbrev pub first_bytes : List Window → List ℕ
+first_bytes [] = []
+first_bytes (w ∷ ws) = w.bytes
 
-  -- the processes and the segments after it moved
-  pub record Along (n : ℕ) (g' : Guest) (segs' : Segments) : Type 0 where
-    pub many : RanMany n p guests (shown_all (set all p (Some g')) segs')
-    pub kept : IsSound (set all p (Some g')) segs'
-    pub held : AllHeld all segs → AllHeld (set all p (Some g')) segs'
-    pub watches : KeepsWatches guests (shown_all (set all p (Some g')) segs')
+abbrev pub second_bytes : List Window → List ℕ
+second_bytes [] = []
+second_bytes (w ∷ ws) = first_bytes ws
 
-  pub stands-now : (g' : Guest) → nth (set all p (Some g')) p ≡ Some g'
-  stands-now g' = nth-set all p (Some g') (IsSome-within all p there)
+-- bytes that are put are there
+pub put-bytes : (o : Option Held) (bytes : List ℕ) (table : Table) → IfHeld o table → held_bytes (with_held o bytes table) o ≡ unwrap_or (option_map (λ (h : Held). bytes) o) []
+put-bytes None bytes table there = refl
+put-bytes (Some h) bytes table there = ap (λ (x : Option (List ℕ)). unwrap_or x []) (nth-set table h.key (Some bytes) (IsSome-within table h.key there))
 
-  -- what it sees then
-  pub sees-now : (g' : Guest) (segs' : Segments) → seen_in (shown_all (set all p (Some g')) segs') p ≡ Some (view_of segs' g')
-  sees-now g' segs' = seen-shown (set all p (Some g')) segs' p ∙ ap (option_map (view_of segs')) (stands-now g')
+-- the same bytes change nothing
+whole-bytes : (x : Option (List ℕ)) → IsSome x → x ≡ Some (unwrap_or x [])
+whole-bytes None there = cc
+whole-bytes (Some b) there = refl
 
-  pub lives-now : (g' : Guest) (segs' : Segments) → IsSome (nth (shown_all (set all p (Some g')) segs') p)
-  lives-now g' segs' = ap is_some (nth-map (shown_of segs') (set all p (Some g')) p ∙ ap (option_map (shown_of segs')) (stands-now g'))
+pub same-held : (o : Option Held) (table : Table) → IfHeld o table → with_held o (held_bytes table o) table ≡ table
+same-held None table there = refl
+same-held (Some h) table there = set-nth table h.key (Some (held_bytes table (Some h))) there (whole-bytes (nth table h.key) there)
 
-  -- one more instruction
-  one-more : (n : ℕ) (g' : Guest) (segs' : Segments) (m : MovesAnother (MovesMany n g segs) g' segs') → Along n m.guest_between m.segments_between → Along (suc n) g' segs'
-  one-more n g' segs' m before =
-      let gm = m.guest_between in
-      let segsm = m.segments_between in
-      let allm : List (Option Guest) = set all p (Some gm) in
-      let there_now : IsSome (nth allm p) = ap is_some (stands-now gm) in
-      let at : Place (shown_all allm segsm) allm segsm p gm g' =
-      record { shown = refl; sound = before.kept; stands = stands-now gm; changes = set-changes p (Some g') allm there_now } in
-      let over : set allm p (Some g') ≡ set all p (Some g') = set-set all p (Some gm) (Some g') in
-      let made : g'.made ≡ gm.made = ap (λ (x : Guest). x.made) m.guest in
-      let segment : g'.segment ≡ gm.segment = ap (λ (x : Guest). x.segment) m.guest in
-      let bytes : List ℕ = held_bytes segs' gm.segment in
-      let back : view_of segs' g' ≡ with_reach (reach (view_of segs' g')) (with_cpu g'.cpu (view_of segsm gm)) =
-      subst (λ (x : Guest). view_of segs' x ≡ with_reach (reach (view_of segs' x)) (with_cpu g'.cpu (view_of segsm gm))) (sym m.guest)
-      (sym (reach-back segsm segs' gm g'.cpu g'.memory)) in
-      let follows : Follows (shown_all allm segsm) (put p (with_reach (reach (view_of segs' g')) (with_cpu g'.cpu (view_of segsm gm)))) (shown_all (set all p (Some g')) segs') =
-      subst (λ (l : List (Option Guest)). Follows (shown_all allm segsm) (put p (with_reach (reach (view_of segs' g')) (with_cpu g'.cpu (view_of segsm gm)))) (shown_all l segs')) over
-      (subst (λ (v : View). Follows (shown_all allm segsm) (put p v) (shown_all (set allm p (Some g')) segs')) back
-      (moved-put at made segment bytes segs' m.segments)) in
-      let watches : KeepsWatches (shown_all allm segsm) (shown_all (set all p (Some g')) segs') =
-      subst (λ (l : List (Option Guest)). KeepsWatches (shown_all allm segsm) (shown_all l segs')) over
-      (moved-watches at made segment bytes segs' m.segments (ap watch_of m.guest)) in
-      let ran : Ran outcome.Next p (shown_all allm segsm) (shown_all (set all p (Some g')) segs') =
+-- bytes that are put twice
+put-twice : (o : Option Held) (a b : List ℕ) (table : Table) → with_held o b (with_held o a table) ≡ with_held o b table
+put-twice None a b table = refl
+put-twice (Some h) a b table = set-set table h.key (Some a) (Some b)
+
+pub refilled-twice : (g : Guest) (a b : Contents) (tables : Tables) → refilled g b (refilled g a tables) ≡ refilled g b tables
+refilled-twice g a b tables =
+    ap₂ (λ (w s : Table). record { windows = w; segments = s }) (put-twice (window_part g) a.window b.window tables.windows) (put-twice g.segment a.segment b.segment tables.segments)
+
+pub refilled-same : (g : Guest) (tables : Tables) → AreThere tables g → refilled g (contents_of tables g) tables ≡ tables
+refilled-same g tables there =
+    ap₂ (λ (w s : Table). record { windows = w; segments = s }) (same-held (window_part g) tables.windows there.window) (same-held g.segment tables.segments there.segment)
+
+-- where the windows are the same, so is what is put
+same-segment : (o : Option Held) (a b : Contents) (table : Table) → windows_for o a ≡ windows_for o b → with_held o a.segment table ≡ with_held o b.segment table
+same-segment None a b table same = refl
+same-segment (Some h) a b table same = ap (λ (ws : List Window). with_held (Some h) (second_bytes ws) table) same
+
+pub refilled-alike : (g : Guest) (a b : Contents) (tables : Tables) → windows_for g.segment a ≡ windows_for g.segment b → refilled g a tables ≡ refilled g b tables
+refilled-alike g a b tables same =
+    ap₂ (λ (w s : Table). record { windows = w; segments = s }) (ap (λ (ws : List Window). with_held (window_part g) (first_bytes ws) tables.windows) same) (same-segment g.segment a b tables.segments same)
+
+-- what the process sees, with these registers and these bytes
+seen-refilled : (g : Guest) (tables : Tables) → AreThere tables g → (cpu : Cpu) (k : Contents) → view_of (refilled g k tables) (record g { cpu = cpu }) ≡ record { body = body_of (record g { cpu = cpu }); window = k.window; segment = unwrap_or (option_map (λ (h : Held). k.segment) g.segment) [] }
+seen-refilled g tables there cpu k =
+    ap₂ (λ (w s : List ℕ). record { body = body_of (record g { cpu = cpu }); window = w; segment = s }) (put-bytes (window_part g) k.window tables.windows there.window) (put-bytes g.segment k.segment tables.segments there.segment)
+
+-- the windows that it reaches then
+pub reach-refilled : (g : Guest) (tables : Tables) → AreThere tables g → (cpu : Cpu) (k : Contents) → reach (view_of (refilled g k tables) (record g { cpu = cpu })) ≡ windows_for g.segment k
+reach-refilled g tables there cpu k = ap reach (seen-refilled g tables there cpu k) ∙ by g.segment
+  where
+    by : (o : Option Held) → windows k.window (option_map (λ (made : ℕ). unwrap_or (option_map (λ (h : Held). k.segment) o) []) (option_map (λ (h : Held). h.made) o)) ≡ windows_for o k
+    by None = refl
+    by (Some h) = refl
+
+pub reach-now : (g : Guest) (tables : Tables) → reach (view_of tables g) ≡ windows_for g.segment (contents_of tables g)
+reach-now g tables = by g.segment
+  where
+    by : (o : Option Held) → windows (held_bytes tables.windows (window_part g)) (option_map (λ (made : ℕ). held_bytes tables.segments o) (option_map (λ (h : Held). h.made) o)) ≡ windows (held_bytes tables.windows (window_part g)) (option_map (λ (h : Held). held_bytes tables.segments o) o)
+    by None = refl
+    by (Some h) = refl
+
+view-refilled : (g : Guest) (tables : Tables) → AreThere tables g → (c cpu : Cpu) (m k : Contents) → view_of (refilled g k tables) (record g { cpu = cpu }) ≡ with_reach (windows_for g.segment k) (with_cpu cpu (view_of (refilled g m tables) (record g { cpu = c })))
+view-refilled g tables there c cpu m k =
+    seen-refilled g tables there cpu k
+    ∙ (by g.segment ∙ ap (λ (v : View). with_reach (windows_for g.segment k) (with_cpu cpu v)) (sym (seen-refilled g tables there c m)))
+  where
+    by : (o : Option Held) → record { body = body_of (record g { cpu = cpu; segment = o }); window = k.window; segment = unwrap_or (option_map (λ (h : Held). k.segment) o) [] } ≡ with_reach (windows_for o k) (with_cpu cpu (record { body = body_of (record g { cpu = c; segment = o }); window = m.window; segment = unwrap_or (option_map (λ (h : Held). m.segment) o) [] }))
+    by None = refl
+    by (Some h) = refl
+
+module _ (guests : Guests) (all : List (Option Guest)) (tables : Tables) (p : ℕ) (g : Guest) (shown : shown_all all tables ≡ guests) (sound : IsSound all tables) (stands : nth all p ≡ Some g) where
+  -- the process with these registers, the tables with these bytes, and what is shown then
+  abbrev with_ : Cpu → Guest
+  with_ cpu = record g { cpu = cpu }
+
+  abbrev all_with : Cpu → List (Option Guest)
+  all_with cpu = set all p (Some (with_ cpu))
+
+  abbrev pub shown_with : Cpu → Contents → Guests
+  shown_with cpu k = shown_all (all_with cpu) (refilled g k tables)
+
+  there : AreThere tables g
+  there = there-of p g all tables sound stands
+
+  at_first : (cpu : Cpu) → Place guests all tables p g (with_ cpu)
+  at_first cpu = place guests all tables p g (with_ cpu) shown sound stands
+
+  stands-now : (cpu : Cpu) → nth (all_with cpu) p ≡ Some (with_ cpu)
+  stands-now cpu = nth-set all p (Some (with_ cpu)) (IsSome-within all p (some-there all p g stands))
+
+  at_then : (c : Cpu) (m : Contents) (cpu : Cpu) → Place (shown_with c m) (all_with c) (refilled g m tables) p (with_ c) (with_ cpu)
+  at_then c m cpu = place (shown_with c m) (all_with c) (refilled g m tables) p (with_ c) (with_ cpu) refl (moved-sound (at_first c) refl refl m (refilled g m tables) refl) (stands-now c)
+
+  sees : (c : Cpu) (m : Contents) → seen_in (shown_with c m) p ≡ Some (view_of (refilled g m tables) (with_ c))
+  sees c m = seen-shown (all_with c) (refilled g m tables) p ∙ ap (option_map (view_of (refilled g m tables))) (stands-now c)
+
+  follows : (c cpu : Cpu) (m k : Contents) → Follows (shown_with c m) (put p (with_reach (windows_for g.segment k) (with_cpu cpu (view_of (refilled g m tables) (with_ c))))) (shown_with cpu k)
+  follows c cpu m k =
+      let once : Follows (shown_with c m) (put p (view_of (refilled g k tables) (with_ cpu))) (shown_all (set (all_with c) p (Some (with_ cpu))) (refilled g k tables)) =
+      moved-put (at_then c m cpu) refl refl k (refilled g k tables) (sym (refilled-twice g m k tables)) in
+      subst (λ (v : View). Follows (shown_with c m) (put p v) (shown_with cpu k)) (view-refilled g tables there c cpu m k)
+      (subst (λ (l : List (Option Guest)). Follows (shown_with c m) (put p (view_of (refilled g k tables) (with_ cpu))) (shown_all l (refilled g k tables))) (set-set all p (Some (with_ c)) (Some (with_ cpu))) once)
+
+  watches : (c cpu : Cpu) (m k : Contents) → KeepsWatches (shown_with c m) (shown_with cpu k)
+  watches c cpu m k =
+      subst (λ (l : List (Option Guest)). KeepsWatches (shown_with c m) (shown_all l (refilled g k tables))) (set-set all p (Some (with_ c)) (Some (with_ cpu)))
+      (moved-watches (at_then c m cpu) refl refl k (refilled g k tables) (sym (refilled-twice g m k tables)) refl)
+
+  stood : (c : Cpu) (m : Contents) → instruction c (windows_for g.segment m) ≡ stands_at (view_of (refilled g m tables) (with_ c))
+  stood c m = ap (instruction c) (sym (reach-refilled g tables there c m))
+
+  none-ran : (cpu : Cpu) (k : Contents) → cpu ≡ g.cpu → windows_for g.segment k ≡ windows_for g.segment (contents_of tables g) → shown_with cpu k ≡ guests
+  none-ran cpu k cpu_is bytes =
+      let same : refilled g k tables ≡ tables = refilled-alike g k (contents_of tables g) tables bytes ∙ refilled-same g tables there in
+      same-shown p g (with_ cpu) all tables (refilled g k tables) stands same (ap (λ (c : Cpu). view_of tables (with_ c)) cpu_is) refl ∙ shown
+
+  pub ran-many : (n : ℕ) (cpu : Cpu) (k : Contents) → LeadsMany (windows_for g.segment) n g.cpu (contents_of tables g) cpu k → RanMany n p guests (shown_with cpu k)
+  ran-many zero cpu k leads = none-ran cpu k leads.0 leads.1
+  ran-many (suc n) cpu k leads =
+      let c = leads.cpu_between in
+      let m = leads.memory_between in
       record {
-        before = view_of segsm gm;
-        cpu = g'.cpu;
-        memory = reach (view_of segs' g');
-        stood = sees-now gm segsm;
-        tells = m.leads;
-        follows = follows;
-      } in
-      record {
-        many = record { between = shown_all allm segsm; before = before.many; ran = ran; watches = watches };
-        kept = subst (λ (l : List (Option Guest)). IsSound l segs') over (moved-sound at made segment bytes segs' m.segments);
-        held = λ held. subst (λ (l : List (Option Guest)). AllHeld l segs') over (moved-kept at made segment bytes segs' m.segments (before.held held)).held;
-        watches = record { kept = λ q. watches.kept q ∙ before.watches.kept q };
+        between = shown_with c m;
+        before = ran-many n c m leads.before;
+        ran = record {
+          before = view_of (refilled g m tables) (with_ c);
+          cpu = cpu;
+          memory = windows_for g.segment k;
+          stood = sees c m;
+          tells = subst (λ (e : Effect). LeadsTo e cpu (windows_for g.segment k)) (stood c m) leads.leads;
+          follows = follows c cpu m k;
+        };
+        watches = watches c cpu m k;
       }
 
-  pub along : (n : ℕ) (g' : Guest) (segs' : Segments) → MovesMany n g segs g' segs' → Along n g' segs'
-  along zero g' segs' m =
-      let at : Place guests all segs p g g' = record { shown = shown; sound = sound; stands = stands; changes = set-changes p (Some g') all there } in
-      let view : view_of segs' g' ≡ view_of segs g = stays-seen g g' segs segs' m in
-      let same : shown_all (set all p (Some g')) segs' ≡ guests = same-shown p g g' all segs segs' stands m.segments view (ap watch_of m.guest) ∙ shown in
-      record {
-        many = same;
-        kept =
-            subst (IsSound (set all p (Some g'))) (sym m.segments)
-            (in_place-sound at (ap (λ (x : Guest). x.made) m.guest) (ap (λ (x : Guest). x.segment) m.guest));
-        held = λ held. subst (λ (l : Segments). AllHeld (set all p (Some g')) l) (sym m.segments)
-            (in_place-kept at (ap (λ (x : Guest). x.made) m.guest) (ap (λ (x : Guest). x.segment) m.guest) held).held;
-        watches = subst (KeepsWatches guests) (sym same) (record { kept = λ q. refl });
-      }
-  along (suc n) g' segs' m = one-more n g' segs' m (along n m.guest_between m.segments_between m.before)
+  pub told-many : {A : Type 0} (runs : A → ℕ → Instr → Cpu → A → Type 0) (n : ℕ) (cpu : Cpu) (k : Contents) (x y : A) → LedMany (windows_for g.segment) runs p n g.cpu (contents_of tables g) x cpu k y → ToldMany runs p n guests (shown_with cpu k) x y
+  told-many runs zero cpu k x y led = (none-ran cpu k led.0 led.1, led.2)
+  told-many runs (suc n) cpu k x y led =
+      let c = led.cpu_between in
+      let m = led.memory_between in (
+        shown_with c m,
+        led.observer_between,
+        told-many runs n c m x led.observer_between led.before,
+        record {
+          instr = led.instr;
+          executed = record {
+            before = view_of (refilled g m tables) (with_ c);
+            cpu = cpu;
+            memory = windows_for g.segment k;
+            stood = sees c m;
+            is_next = sym (stood c m) ∙ led.leads;
+            follows = follows c cpu m k;
+          };
+          told = led.told;
+        },
+      )
+
+  -- where it ran, what holds of these registers and bytes holds of the process and of the tables
+  pub ran-so : (P : Guests → Type 0) (g' : Guest) (tables' : Tables) → g' ≡ record g { cpu = g'.cpu } → tables' ≡ refilled g (contents_of tables' g) tables → P (shown_with g'.cpu (contents_of tables' g)) → P (shown_all (set all p (Some g')) tables')
+  ran-so P g' tables' guest is holds =
+      subst (λ (x : Guest). P (shown_all (set all p (Some x)) tables')) (sym guest)
+      (subst (λ (l : Tables). P (shown_all (all_with g'.cpu) l)) (sym is) holds)
+
+  -- it sees what stands in its place
+  pub sees-now : (g' : Guest) (tables' : Tables) → seen_in (shown_all (set all p (Some g')) tables') p ≡ Some (view_of tables' g')
+  sees-now g' tables' =
+      seen-shown (set all p (Some g')) tables' p ∙ ap (option_map (view_of tables')) (nth-set all p (Some g') (IsSome-within all p (some-there all p g stands)))
+
+  pub lives-now : (g' : Guest) (tables' : Tables) → IsSome (nth (shown_all (set all p (Some g')) tables') p)
+  lives-now g' tables' =
+      ap (λ (o : Option Shown). is_some o) (nth-map (shown_of tables') (set all p (Some g')) p ∙ ap (option_map (shown_of tables')) (nth-set all p (Some g') (IsSome-within all p (some-there all p g stands))))
+
+-- a view is read off what it reaches
+pub reach-back : (tables tables' : Tables) (g g' : Guest) → g' ≡ record g { cpu = g'.cpu } → view_of tables' g' ≡ with_reach (reach (view_of tables' g')) (with_cpu g'.cpu (view_of tables g))
+reach-back tables tables' g g' guest =
+    subst (λ (x : Guest). view_of tables' x ≡ with_reach (reach (view_of tables' x)) (with_cpu g'.cpu (view_of tables g))) (sym guest) (by g.segment)
+  where
+    by : (o : Option Held) → view_of tables' (record g { cpu = g'.cpu; segment = o }) ≡ with_reach (reach (view_of tables' (record g { cpu = g'.cpu; segment = o }))) (with_cpu g'.cpu (view_of tables (record g { segment = o })))
+    by None = refl
+    by (Some h) = refl

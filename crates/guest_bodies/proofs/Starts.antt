@@ -1,5 +1,5 @@
 -- How a process starts from an image: one that lives, or process 1 among none.
-use Rattle.std.proofs.Common.{◌≡◌, ℕ, ◌<◌, ◌==◌, Bool, true, false, List, [], length, set, Option, Some, None, IfSome, IsNone, is_some, option_map, ap, ap₂, subst, sym, refl, ◌∙◌, arith}
+use Rattle.std.proofs.Common.{◌≡◌, ℕ, ◌<◌, ◌==◌, Bool, true, false, List, [], length, set, Option, Some, None, IfSome, IsNone, is_some, option_map, ap, subst, sym, refl, ◌∙◌, arith}
 use Rattle.std.proofs.lemmas.Bool.Decides.{nat_tests}
 use Rattle.std.proofs.lemmas.Bool.{eqb-true, eqb-false}
 use Rattle.arn_base.specs.declared.machine.Cpu.{Cpu}
@@ -10,74 +10,86 @@ use Rattle.acts_model.specs.Acts.{Beginning, Starts, child_view, done, done_by, 
 use Rattle.acts_model.specs.Bodies.{Bodies, View, seen, put, laid}
 use Rattle.acts_model.specs.Views.{cpu_at_start, read, window_at_start}
 use Rattle.guest_bodies.specs.Follows.{Follows, SetsWatch}
-use Rattle.guest_bodies.specs.Kept.{Segments, view_of, watch_of, shown_all, AllHeld, IsKept, IsSound}
+use Rattle.guest_bodies.specs.Kept.{AllHeld, IsKept, IsSound, segment_part, shown_all, view_of, watch_of, window_part}
+use Rattle.guest_bodies.specs.Tables.{Tables}
 use Rattle.guest_bodies.specs.Shown.{Guests, Watch, IsFresh, fresh_watch, restarted, seen_in, watch_in}
 use Rattle.guest_bodies.specs.declared.guest.Guest.{Guest}
 use Rattle.guest_bodies.specs.declared.starting.First.{First}
-use Rattle.guest_bodies.proofs.Begins.{begins-kept, begins-sound, begins-follows, begins-watch}
+use Rattle.guest_bodies.proofs.Begins.{GetsWindow, IsGrown, begins-follows, begins-kept, begins-sound, begins-watch, gets-key, gets-view}
 use Rattle.guest_bodies.proofs.Changes.{follows-done, seen-shown, watch-shown}
-use Rattle.guest_bodies.proofs.Forks.{IsGrown}
+use Rattle.guest_bodies.proofs.Fresh.{named}
+use Rattle.guest_bodies.proofs.Holders.{OthersHeld, given-back, given-fresh}
 use Rattle.guest_bodies.proofs.InPlace.{Place}
 use Rattle.guest_bodies.proofs.Numbers.{IsSome-within}
 use Rattle.guest_bodies.proofs.Puts.{fresh_segment, refreshed, seen-other, seen-same}
 
-abbrev pub starting : Guest → ℕ → First → Guest
-starting g event first =
+abbrev pub starting : Guest → ℕ → ℕ → Cpu → Guest
+starting g event key cpu =
     record {
-      cpu = first.cpu;
+      cpu = cpu;
       signals = record g.signals { handlers = no_handlers; slot = None };
-      memory = record { space = first.space; segment = None };
-      made = event;
+      window = named event key;
       segment = None;
     }
 
-abbrev pub booting : ℕ → First → Guest
-booting event first =
-    record { cpu = first.cpu; signals = no_signals; memory = record { space = first.space; segment = None }; made = event; segment = None }
+abbrev pub booting : ℕ → ℕ → Cpu → Guest
+booting event key cpu = record { cpu = cpu; signals = no_signals; window = named event key; segment = None }
 
 -- registers and window as an image and a block give them
 pub record IsFirst (file block : List ℕ) (first : First) : Type 0 where
   pub cpu : first.cpu ≡ cpu_at_start (read_as_image file).entry (length block)
   pub space : first.space.bytes ≡ window_at_start (read_as_image file) block
 
-started-is : (segs : Segments) (event : ℕ) (file block : List ℕ) (first : First) → IsFirst file block first → view_of segs (booting event first) ≡ started event (read_as_image file) block
-started-is segs event file block first is =
-    ap₂ (λ (c : Cpu) (w : List ℕ). record { body = record { cpu = c; slot = None; window = event; segment = None }; window = w; segment = [] }) is.cpu is.space
+-- what it sees then
+started-is : (event key : ℕ) (file block : List ℕ) (first : First) (g : Guest) (tables tables' : Tables) → IsFirst file block first → g.cpu ≡ first.cpu → g.signals.slot ≡ None → g.segment ≡ None → GetsWindow event key first.space.bytes g tables tables' → view_of tables' g ≡ started event (read_as_image file) block
+started-is event key file block first g tables tables' is h1 h2 h3 gets = grind (arith, nat_tests, gets-view, is)
 
 same-grown : (all : List (Option Guest)) → IsGrown all all
 same-grown all = record { same = λ q. refl }
 
 -- a process that lives
-module _ {guests : Guests} {all : List (Option Guest)} {segs : Segments} {p : ℕ} {g : Guest} (event : ℕ) (first : First) (at : Place guests all segs p g (starting g event first)) (fresh : IsFresh guests event) where
+module _ {guests : Guests} {all : List (Option Guest)} {tables tables' : Tables} {p : ℕ} {g : Guest} (event key : ℕ) (first : First) (at : Place guests all tables p g (starting g event key first.cpu)) (fresh : IsFresh guests event) (gets : GetsWindow event key first.space.bytes (starting g event key first.cpu) tables tables') where
   room : p < length all
   room = IsSome-within all p (ap (λ (o : Option Guest). is_some o) at.stands)
 
-  pub starts-sound : IsSound (set all p (Some (starting g event first))) segs
-  starts-sound = begins-sound guests all all segs p event (starting g event first) at.shown at.sound fresh (same-grown all) room refl refl
+  abbrev started_all : List (Option Guest)
+  started_all = set all p (Some (starting g event key first.cpu))
 
-  starts-seen : seen_in guests p ≡ Some (view_of segs g)
-  starts-seen = ap (λ (gs : Guests). seen_in gs p) (sym at.shown) ∙ (seen-shown all segs p ∙ ap (option_map (view_of segs)) at.stands)
+  pub starts-sound : IsSound started_all tables'
+  starts-sound = begins-sound p at.shown at.sound fresh (same-grown all) room gets refl
+
+  pub starts-windows : AllHeld window_part all tables.windows → OthersHeld window_part (window_part g) started_all tables'.windows
+  starts-windows windows =
+      given-fresh window_part p key g (starting g event key first.cpu) all started_all first.space.bytes tables.windows tables'.windows at.stands (gets-key gets) gets.adds at.changes windows
+
+  pub starts-segments : AllHeld segment_part all tables.segments → OthersHeld segment_part g.segment started_all tables'.segments
+  starts-segments segments =
+      subst (OthersHeld segment_part g.segment started_all) (sym gets.same)
+      (given-back segment_part p g (Some (starting g event key first.cpu)) all started_all tables.segments at.stands at.changes segments)
+
+  starts-seen : seen_in guests p ≡ Some (view_of tables g)
+  starts-seen = ap (λ (gs : Guests). seen_in gs p) (sym at.shown) ∙ (seen-shown all tables p ∙ ap (option_map (view_of tables)) at.stands)
 
   -- what it begins with, told by what it sees
-  pub starts-first : (file : List ℕ) (from len : ℕ) → IfSome (seen_in guests p) (λ v. first.cpu ≡ cpu_at_start (read_as_image file).entry (length (read v from len))) → IfSome (seen_in guests p) (λ v. first.space.bytes ≡ window_at_start (read_as_image file) (read v from len)) → IsFirst file (read (view_of segs g) from len) first
+  pub starts-first : (file : List ℕ) (from len : ℕ) → IfSome (seen_in guests p) (λ v. first.cpu ≡ cpu_at_start (read_as_image file).entry (length (read v from len))) → IfSome (seen_in guests p) (λ v. first.space.bytes ≡ window_at_start (read_as_image file) (read v from len)) → IsFirst file (read (view_of tables g) from len) first
   starts-first file from len cpu space =
       record {
         cpu = subst (λ (o : Option View). IfSome o (λ v. first.cpu ≡ cpu_at_start (read_as_image file).entry (length (read v from len)))) starts-seen cpu;
         space = subst (λ (o : Option View). IfSome o (λ v. first.space.bytes ≡ window_at_start (read_as_image file) (read v from len))) starts-seen space;
       }
 
-  pub starts-follows : (file block : List ℕ) (from len : ℕ) → IsFirst file block first → block ≡ read (view_of segs g) from len → Follows guests (done p event (Starts file from len)) (shown_all (set all p (Some (starting g event first))) segs)
+  pub starts-follows : (file block : List ℕ) (from len : ℕ) → IsFirst file block first → block ≡ read (view_of tables g) from len → Follows guests (done p event (Starts file from len)) (shown_all started_all tables')
   starts-follows file block from len is bytes =
-      follows-done guests (shown_all (set all p (Some (starting g event first))) segs) p event (Starts file from len) (view_of segs g) (view_of segs (starting g event first)) starts-seen
-      (ap (λ (l : List ℕ). Some (started event (read_as_image file) l)) (sym bytes) ∙ ap (λ (v : View). Some v) (sym (started-is segs event file block first is)))
+      follows-done guests (shown_all started_all tables') p event (Starts file from len) (view_of tables g) (view_of tables' (starting g event key first.cpu)) starts-seen
+      (ap (λ (l : List ℕ). Some (started event (read_as_image file) l)) (sym bytes) ∙ ap (λ (v : View). Some v) (sym (started-is event key file block first (starting g event key first.cpu) tables tables' is refl refl refl gets)))
       (λ b. refl)
-      (begins-follows guests all all segs p event (starting g event first) at.shown at.sound fresh (same-grown all) room refl refl)
+      (begins-follows p at.shown at.sound fresh (same-grown all) room gets refl)
 
-  pub starts-watch : SetsWatch p (option_map restarted (watch_in guests p)) guests (shown_all (set all p (Some (starting g event first))) segs)
+  pub starts-watch : SetsWatch p (option_map restarted (watch_in guests p)) guests (shown_all started_all tables')
   starts-watch =
-      subst (λ (w : Option Watch). SetsWatch p w guests (shown_all (set all p (Some (starting g event first))) segs))
-      (sym (ap (option_map restarted) (ap (λ (gs : Guests). watch_in gs p) (sym at.shown) ∙ (watch-shown all segs p ∙ ap (option_map watch_of) at.stands))))
-      (begins-watch guests all all segs p event (starting g event first) at.shown at.sound fresh (same-grown all) room refl refl)
+      subst (λ (w : Option Watch). SetsWatch p w guests (shown_all started_all tables'))
+      (sym (ap (option_map restarted) (ap (λ (gs : Guests). watch_in gs p) (sym at.shown) ∙ (watch-shown all tables p ∙ ap (option_map watch_of) at.stands))))
+      (begins-watch p at.shown at.sound fresh (same-grown all) room gets refl)
 
 -- where no process lives, every event is fresh
 pub none-fresh : (guests : Guests) (event : ℕ) → ((p : ℕ) → IsNone (nth guests p)) → IsFresh guests event
@@ -125,18 +137,18 @@ born event file guests new follows =
     done_is b = ap (λ (o : Option View). done_by 1 event (Starts file 0 0) o (put 1 (unborn event) b)) (seen-same 1 (unborn event) b)
 
 -- process 1 among none
-module _ (guests : Guests) (all grown : List (Option Guest)) (segs : Segments) (event : ℕ) (first : First) (is : shown_all all segs ≡ guests) (sound : IsSound all segs) (none : (p : ℕ) → IsNone (nth guests p)) (grows : IsGrown all grown) (room : 1 < length grown) where
-  pub boots-sound : IsSound (set grown 1 (Some (booting event first))) segs
-  boots-sound = begins-sound guests all grown segs 1 event (booting event first) is sound (none-fresh guests event none) grows room refl refl
+module _ {guests : Guests} {all grown : List (Option Guest)} {tables tables' : Tables} (event key : ℕ) (first : First) (is : shown_all all tables ≡ guests) (sound : IsSound all tables) (none : (p : ℕ) → IsNone (nth guests p)) (grows : IsGrown all grown) (room : 1 < length grown) (gets : GetsWindow event key first.space.bytes (booting event key first.cpu) tables tables') where
+  abbrev booted_all : List (Option Guest)
+  booted_all = set grown 1 (Some (booting event key first.cpu))
 
-  pub boots-kept : AllHeld all segs → IsKept (set grown 1 (Some (booting event first))) segs
-  boots-kept held = begins-kept guests all grown segs 1 event (booting event first) is sound (none-fresh guests event none) grows room refl refl (none 1) held
+  pub boots-kept : AllHeld window_part all tables.windows → AllHeld segment_part all tables.segments → IsKept booted_all tables'
+  boots-kept windows segments = begins-kept 1 is sound (none-fresh guests event none) grows room gets refl (none 1) windows segments
 
-  pub boots-follows : (file : List ℕ) → IsFirst file [] first → Follows guests (λ b. done 1 event (Starts file 0 0) (put 1 (unborn event) b)) (shown_all (set grown 1 (Some (booting event first))) segs)
+  pub boots-follows : (file : List ℕ) → IsFirst file [] first → Follows guests (λ b. done 1 event (Starts file 0 0) (put 1 (unborn event) b)) (shown_all booted_all tables')
   boots-follows file from =
-      born event file guests (shown_all (set grown 1 (Some (booting event first))) segs)
-      (subst (λ (v : View). Follows guests (put 1 v) (shown_all (set grown 1 (Some (booting event first))) segs)) (started-is segs event file [] first from)
-      (begins-follows guests all grown segs 1 event (booting event first) is sound (none-fresh guests event none) grows room refl refl))
+      born event file guests (shown_all booted_all tables')
+      (subst (λ (v : View). Follows guests (put 1 v) (shown_all booted_all tables')) (started-is event key file [] first (booting event key first.cpu) tables tables' from refl refl refl gets)
+      (begins-follows 1 is sound (none-fresh guests event none) grows room gets refl))
 
-  pub boots-watch : SetsWatch 1 (Some fresh_watch) guests (shown_all (set grown 1 (Some (booting event first))) segs)
-  boots-watch = begins-watch guests all grown segs 1 event (booting event first) is sound (none-fresh guests event none) grows room refl refl
+  pub boots-watch : SetsWatch 1 (Some fresh_watch) guests (shown_all booted_all tables')
+  boots-watch = begins-watch 1 is sound (none-fresh guests event none) grows room gets refl

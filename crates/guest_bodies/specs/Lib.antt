@@ -1,8 +1,8 @@
 pub mod Follows
 pub mod Fresh
-pub mod HeldTold
 pub mod Kept
 pub mod Led
 pub mod Running
 pub mod Shown
+pub mod Tables
 pub mod Told

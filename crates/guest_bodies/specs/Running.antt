@@ -2,15 +2,12 @@
 use Rattle.std.specs.Prelude.{◌≡◌, ◌<◌, ℕ, zero, suc, List}
 use Rattle.arn_base.specs.Window.{Window}
 use Rattle.arn_base.specs.declared.machine.Cpu.{Cpu}
-use Rattle.acts_model.specs.Views.{reach, stands_at}
 use Rattle.rv64_core.specs.Outcome.{LeadsTo, WouldStore}
 use Rattle.rv64_core.specs.declared.outcome.Outcome.{Outcome}
 use Rattle.rv64_core.specs.declared.outcome.Outcome.TheVariants as outcome
 use Rattle.rv64_model.specs.Instruction.{Effect, Call, End, instruction}
 use Rattle.guest_bodies.specs.Follows.{KeepsWatches, Ran}
-use Rattle.guest_bodies.specs.Kept.{Segments, held_bytes, view_of, with_held}
 use Rattle.guest_bodies.specs.Shown.{Guests}
-use Rattle.guest_bodies.specs.declared.guest.Guest.{Guest}
 
 -- behind what ran before, the process runs one more instruction, which the next one follows
 pub record RanAnother (Before : Guests → Type 0) (p : ℕ) (new : Guests) : Type 0 where
@@ -49,23 +46,3 @@ pub record LeadsAnother {M : Type 0} (windows : M → List Window) (Before : Cpu
 abbrev pub LeadsMany : {M : Type 0} → (M → List Window) → ℕ → Cpu → M → Cpu → M → Type 0
 LeadsMany windows zero cpu memory cpu' memory' = (cpu' ≡ cpu) × (windows memory' ≡ windows memory)
 LeadsMany windows (suc n) cpu memory cpu' memory' = LeadsAnother windows (LeadsMany windows n cpu memory) cpu' memory'
-
--- one more instruction of a process, as it and the segments are kept
-pub record MovesAnother (Before : Guest → Segments → Type 0) (g : Guest) (segs : Segments) : Type 0 where
-  pub guest_between : Guest
-  pub segments_between : Segments
-  pub before : Before guest_between segments_between
-  pub leads : LeadsTo (stands_at (view_of segments_between guest_between)) g.cpu (reach (view_of segs g))
-  pub guest : g ≡ record guest_between { cpu = g.cpu; memory = g.memory }
-  pub segments : segs ≡ with_held guest_between.segment (held_bytes segs guest_between.segment) segments_between
-
--- it stands as before, with the same bytes in its window, whatever segment is at hand
-pub record StaysAs (old new : Guest) (segs segs' : Segments) : Type 0 where
-  pub guest : new ≡ record old { memory = new.memory }
-  pub bytes : new.memory.space.bytes ≡ old.memory.space.bytes
-  pub segments : segs' ≡ segs
-
--- so many instructions of a process, as it and the segments are kept
-abbrev pub MovesMany : ℕ → Guest → Segments → Guest → Segments → Type 0
-MovesMany zero old segs new segs' = StaysAs old new segs segs'
-MovesMany (suc n) old segs new segs' = MovesAnother (MovesMany n old segs) new segs'

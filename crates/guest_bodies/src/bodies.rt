@@ -15,16 +15,17 @@ ghost use Rattle.guest_bodies.specs.Running.{RanMany, StopsAt, stop_count};
 ghost use Rattle.guest_bodies.specs.Shown.{IsFresh, IsInside, IsLive, fresh_watch, inherited, restarted, seen_in, signals_in, watch_in};
 ghost use Rattle.guest_bodies.specs.Told.{FailsAt, IsStop, ToldMany};
 
-use crate::guest::{Guest, Shared, begin, boot};
-use crate::held;
+use crate::guest::{Guest, Held, begin, boot};
+use crate::memories::Memories;
 use crate::running::Stood;
 use crate::starting::First;
-use crate::table::{fork, make_room, release};
+use crate::table::fork;
 use crate::told::Stretch;
 use crate::windows::window_of;
 use acts_model::Observer;
 use arn_base::{BadAddress, Blocks, Bytes, Cpu, NoMemory, Start, Steps};
 use guest_mem::{Segment, Spare};
+use numbered::Numbered;
 use parts_model::limits::MOST_BLOCK_BYTES;
 use rv64_core::{Decoder, Outcome, Prospect};
 use std::alloc::Global;
@@ -35,8 +36,8 @@ use std::sync::ledger::Ledger;
 #[derive(Drop)]
 pub struct Bodies {
     alloc: Global,
-    guests: Vec<Option<Guest>>,
-    segments: Vec<Option<Segment>>,
+    guests: Numbered<Guest>,
+    memories: Memories,
     decoder: Decoder,
 }
 
@@ -46,9 +47,9 @@ impl Model for Bodies {
 
     ghost Value = { Guests };
 
-    ghost view = { λ b. shown_all b.guests.items b.segments.items };
+    ghost view = { λ b. shown_all b.guests b.memories };
 
-    ghost invariant = { λ b. IsKept b.guests.items b.segments.items };
+    ghost invariant = { λ b. IsKept b.guests b.memories };
 }
 
 impl Bodies {
@@ -58,8 +59,8 @@ impl Bodies {
     {
         Bodies {
             alloc,
-            guests: Vec::new(alloc),
-            segments: Vec::new(alloc),
+            guests: Numbered::new(alloc),
+            memories: Memories::new(alloc),
             decoder: Decoder::new(alloc),
         }
     }
@@ -71,10 +72,7 @@ impl Bodies {
             Follows self.old (done pid event act) self.new }
         ensures watches { KeepsWatches self.old self.new }
     {
-        match &mut self.guests[pid as usize] {
-            Some(guest) => guest.returns(answer),
-            None => unreachable!(),
-        }
+        self.guests.at_mut(pid as usize).returns(answer)
     }
 
     /// Runs the instruction at which a process stands, and counts it whatever it comes to. It is
@@ -87,10 +85,8 @@ impl Bodies {
         ensures stop { OnStop result (self.new ≡ self.old) }
         ensures watches { KeepsWatches self.old self.new }
     {
-        match &mut self.guests[pid as usize] {
-            Some(guest) => held::step(guest, &mut self.segments, steps),
-            None => unreachable!(),
-        }
+        let guest = self.guests.at_mut(pid as usize);
+        self.memories.step(guest, steps)
     }
 
     /// Runs up to so many instructions of a process, as long as the next one follows, and counts them.
@@ -104,10 +100,8 @@ impl Bodies {
         ensures watches { KeepsWatches self.old self.new }
         ensures live { IsLive self.new pid }
     {
-        match &mut self.guests[pid as usize] {
-            Some(guest) => held::run(guest, &mut self.segments, count, &mut self.decoder, steps),
-            None => unreachable!(),
-        }
+        let guest = self.guests.at_mut(pid as usize);
+        self.memories.run(guest, count, &mut self.decoder, steps)
     }
 
     /// Says what the instruction at which a process stands would come to, and counts it whatever that
@@ -119,10 +113,8 @@ impl Bodies {
             Foretells result v.body.cpu (stands_at v)) }
         ensures same { self.new ≡ self.old }
     {
-        match &mut self.guests[pid as usize] {
-            Some(guest) => held::next_lent(guest, &mut self.segments, steps),
-            None => unreachable!(),
-        }
+        self.memories
+            .next_instr(self.guests.at(pid as usize), steps)
     }
 
     /// Runs so many instructions of a process, or fewer where it comes to a call or to its end, and
@@ -149,14 +141,11 @@ impl Bodies {
         ensures bounded { steps.new ≤ steps.old + count }
         ensures watches { KeepsWatches self.old self.new }
     {
-        match &mut self.guests[pid as usize] {
-            Some(guest) => {
-                let stretch = Stretch { pid, count };
-                let (segments, decoder) = (&mut self.segments, &mut self.decoder);
-                held::run_told(guest, segments, stretch, observer, decoder, steps)
-            }
-            None => unreachable!(),
-        }
+        let guest = self.guests.at_mut(pid as usize);
+        let stretch = Stretch { pid, count };
+        let decoder = &mut self.decoder;
+        self.memories
+            .run_told(guest, stretch, observer, decoder, steps)
     }
 
     /// Memory for so many bytes that a process receives.
@@ -175,13 +164,9 @@ impl Bodies {
             Follows self.old (done pid event (Receives at bytes.now answer)) self.new }
         ensures watches { KeepsWatches self.old self.new }
     {
-        match &mut self.guests[pid as usize] {
-            Some(guest) => {
-                held::write(guest, &mut self.segments, at, bytes, spare);
-                guest.returns(answer);
-            }
-            None => unreachable!(),
-        }
+        let guest = self.guests.at_mut(pid as usize);
+        self.memories.write(guest, at, bytes, spare);
+        guest.returns(answer);
     }
 
     /// Whether a range of a process's addresses lies whole in one window.
@@ -189,10 +174,8 @@ impl Bodies {
         requires live { IsLive self.now pid }
         ensures { IfSome (seen_in self.now pid) (λ v. result ≡ can_reach v at len) }
     {
-        match &self.guests[pid as usize] {
-            Some(guest) => held::can_reach(guest, &self.segments, at, len),
-            None => unreachable!(),
-        }
+        self.memories
+            .can_reach(self.guests.at(pid as usize), at, len)
     }
 
     /// Copies the bytes at an address of a process, as many as the buffer has, where they lie whole in
@@ -205,10 +188,8 @@ impl Bodies {
             bytes_in v at (length buf.old) ≡ None)) }
         ensures same { OnErr result (buf.new ≡ buf.old) }
     {
-        match &self.guests[pid as usize] {
-            Some(guest) => held::read_into(guest, &self.segments, at, buf),
-            None => unreachable!(),
-        }
+        self.memories
+            .read_into(self.guests.at(pid as usize), at, buf)
     }
 
     /// The bytes of a range of a process's addresses, where they lie whole in one window.
@@ -217,10 +198,7 @@ impl Bodies {
         ensures { IfOk result (λ copy. IfSome (seen_in self.now pid) (λ v.
             copy ≡ bytes_in v at len)) }
     {
-        match &self.guests[pid as usize] {
-            Some(guest) => held::copy(guest, &self.segments, at, len),
-            None => unreachable!(),
-        }
+        self.memories.copy(self.guests.at(pid as usize), at, len)
     }
 
     /// The first bytes of a range of a process's addresses, where it lies whole in one window.
@@ -235,10 +213,8 @@ impl Bodies {
         ensures { IfOk result (λ copy. IfSome (seen_in self.now pid) (λ v.
             copy ≡ option_map (take first) (bytes_in v at len))) }
     {
-        match &self.guests[pid as usize] {
-            Some(guest) => held::first_of(guest, &self.segments, at, len, first),
-            None => unreachable!(),
-        }
+        self.memories
+            .first_of(self.guests.at(pid as usize), at, len, first)
     }
 
     /// Sets a handler, or takes one away where it is 0. False says that it may not be set.
@@ -249,10 +225,10 @@ impl Bodies {
             record w { handlers = with_handler w.handlers signal handler }) self.old self.new }
         ensures refused { result ≡ false → self.new ≡ self.old }
     {
-        match &mut self.guests[pid as usize] {
-            Some(guest) => guest.signals.set(signal, handler),
-            None => unreachable!(),
-        }
+        self.guests
+            .at_mut(pid as usize)
+            .signals
+            .set(signal, handler)
     }
 
     /// Makes a signal pending.
@@ -262,10 +238,7 @@ impl Bodies {
         ensures { Rewatches pid (λ w.
             record w { pending = with_pending w.pending signal true }) self.old self.new }
     {
-        match &mut self.guests[pid as usize] {
-            Some(guest) => guest.signals.post(signal),
-            None => unreachable!(),
-        }
+        self.guests.at_mut(pid as usize).signals.post(signal)
     }
 
     /// A handler begins, without a look at what is pending. `cut` says that this ends a call.
@@ -275,10 +248,9 @@ impl Bodies {
             Follows self.old (done pid event (Delivers signal handler cut)) self.new }
         ensures watches { KeepsWatches self.old self.new }
     {
-        match &mut self.guests[pid as usize] {
-            Some(guest) => guest.delivers(signal, handler, cut),
-            None => unreachable!(),
-        }
+        self.guests
+            .at_mut(pid as usize)
+            .delivers(signal, handler, cut)
     }
 
     /// A handler ends. False says that none runs: then nothing changes.
@@ -288,10 +260,7 @@ impl Bodies {
         ensures follows { (event : ℕ) → Follows self.old (done pid event Leaves) self.new }
         ensures watches { KeepsWatches self.old self.new }
     {
-        match &mut self.guests[pid as usize] {
-            Some(guest) => guest.leaves(),
-            None => unreachable!(),
-        }
+        self.guests.at_mut(pid as usize).leaves()
     }
 
     /// A process ends.
@@ -301,23 +270,11 @@ impl Bodies {
             Follows self.old (done pid event act) self.new }
         ensures watches { SetsWatch pid None self.old self.new }
     {
-        let former = match &self.guests[pid as usize] {
-            Some(guest) => guest.segment,
-            None => unreachable!(),
-        };
-        self.guests[pid as usize] = None;
-        release(&self.guests, &mut self.segments, former);
-    }
-
-    // A process shares the pages of its private window with a child that it will have. This shows nothing.
-    fn share_pages(&mut self, pid: u32) -> Result<(), NoMemory>
-        requires live { IsLive self.old pid }
-        ensures { self.new ≡ self.old }
-    {
-        match &mut self.guests[pid as usize] {
-            Some(guest) => guest.share(),
-            None => unreachable!(),
-        }
+        let guest = self.guests.take_at(pid as usize);
+        self.memories
+            .release_window(self.guests.as_slice(), guest.window);
+        self.memories
+            .release_segment(self.guests.as_slice(), guest.segment);
     }
 
     /// A process makes a child in its own group, whose number it gets as the call's result. The
@@ -331,12 +288,12 @@ impl Bodies {
             (SetsWatch child (option_map inherited (watch_in self.old pid)) self.old self.new) }
         ensures err { OnErr result (self.new ≡ self.old) }
     {
-        self.share_pages(pid)?;
-        let guest = match &self.guests[pid as usize] {
-            Some(parent) => parent.child(event, parent.segment)?,
-            None => unreachable!(),
-        };
-        make_room(&mut self.guests, child)?;
+        let key = self.memories.window_room()?;
+        let parent = self.guests.at(pid as usize);
+        let space = self.memories.copy_window(parent.window)?;
+        let guest = parent.child(Held { made: event, key }, parent.segment);
+        self.guests.make_room(child)?;
+        self.memories.put_window(key, space);
         fork(&mut self.guests, pid, child, guest);
         Ok(())
     }
@@ -354,12 +311,12 @@ impl Bodies {
             (SetsWatch child (option_map inherited (watch_in self.old pid)) self.old self.new) }
         ensures err { OnErr result (self.new ≡ self.old) }
     {
-        self.share_pages(pid)?;
-        let guest = match &self.guests[pid as usize] {
-            Some(parent) => parent.child(event, None)?,
-            None => unreachable!(),
-        };
-        make_room(&mut self.guests, child)?;
+        let key = self.memories.window_room()?;
+        let parent = self.guests.at(pid as usize);
+        let space = self.memories.copy_window(parent.window)?;
+        let guest = parent.child(Held { made: event, key }, None);
+        self.guests.make_room(child)?;
+        self.memories.put_window(key, space);
         fork(&mut self.guests, pid, child, guest);
         Ok(())
     }
@@ -373,13 +330,11 @@ impl Bodies {
         ensures err { OnErr result (self.new ≡ self.old) }
     {
         let segment = Segment::new(self.alloc)?;
-        let key = self.segments.len();
-        self.segments.push(Some(segment))?;
-        let former = match &mut self.guests[pid as usize] {
-            Some(guest) => guest.shares(Shared { made: event, key }),
-            None => unreachable!(),
-        };
-        release(&self.guests, &mut self.segments, former);
+        let key = self.memories.add_segment(segment)?;
+        let guest = self.guests.at_mut(pid as usize);
+        let former = guest.shares(Held { made: event, key });
+        self.memories
+            .release_segment(self.guests.as_slice(), former);
         Ok(())
     }
 
@@ -396,8 +351,11 @@ impl Bodies {
     {
         self.decoder.make_room()?;
         let space = window_of(self.alloc, start.blocks.as_slice())?;
-        make_room(&mut self.guests, child)?;
-        let _ = self.guests[child as usize].insert(begin(event, start, space));
+        let key = self.memories.window_room()?;
+        self.guests.make_room(child)?;
+        self.memories.put_window(key, space);
+        let guest = begin(Held { made: event, key }, start);
+        self.guests.put(child as usize, guest);
         Ok(())
     }
 
@@ -412,13 +370,9 @@ impl Bodies {
         ensures space { IfOk result (λ first. IfSome (seen_in self.now pid) (λ v.
             first.space.bytes ≡ window_at_start (read_as_image file.now) (read v at len))) }
     {
-        match &self.guests[pid as usize] {
-            Some(guest) => {
-                let block = held::block(self.alloc, guest, &self.segments, at, len)?;
-                First::new(self.alloc, file, block.as_slice())
-            }
-            None => unreachable!(),
-        }
+        let guest = self.guests.at(pid as usize);
+        let block = self.memories.block(self.alloc, guest, at, len)?;
+        First::new(self.alloc, file, block.as_slice())
     }
 
     /// A process starts anew from an image file. The bytes of a range of its addresses become its
@@ -442,11 +396,13 @@ impl Bodies {
         ensures err { OnErr result (self.new ≡ self.old) }
     {
         let first = self.first(pid, file, at, len)?;
-        let former = match &mut self.guests[pid as usize] {
-            Some(guest) => guest.starts(event, first),
-            None => unreachable!(),
-        };
-        release(&self.guests, &mut self.segments, former);
+        let key = self.memories.add_window(first.space)?;
+        let guest = self.guests.at_mut(pid as usize);
+        let (window, segment) = (guest.window, guest.segment);
+        guest.starts(first.cpu, Held { made: event, key });
+        self.memories.release_window(self.guests.as_slice(), window);
+        self.memories
+            .release_segment(self.guests.as_slice(), segment);
         Ok(())
     }
 
@@ -461,8 +417,11 @@ impl Bodies {
     {
         self.decoder.make_room()?;
         let first = First::new(self.alloc, file, &[])?;
-        make_room(&mut self.guests, 1)?;
-        let _ = self.guests[1].insert(boot(event, first));
+        let key = self.memories.window_room()?;
+        self.guests.make_room(1)?;
+        self.memories.put_window(key, first.space);
+        let guest = boot(Held { made: event, key }, first.cpu);
+        self.guests.put(1, guest);
         Ok(())
     }
 
@@ -473,10 +432,9 @@ impl Bodies {
             start ≡ start_of (beginning_of v))) }
         ensures few { IfOk result (λ start. length start.blocks < 2 ^ 16) }
     {
-        match &self.guests[pid as usize] {
-            Some(guest) => guest.start(),
-            None => unreachable!(),
-        }
+        let guest = self.guests.at(pid as usize);
+        let blocks = self.memories.window_blocks(guest.window)?;
+        Ok(guest.start(blocks))
     }
 
     /// Takes the due signal away.
@@ -485,20 +443,14 @@ impl Bodies {
         ensures { IfSome (signals_in self.old pid) (λ s. Rewatches pid (λ w.
             record w { pending = without w.pending (due_signal s) }) self.old self.new) }
     {
-        match &mut self.guests[pid as usize] {
-            Some(guest) => guest.signals.drop_due(),
-            None => unreachable!(),
-        }
+        self.guests.at_mut(pid as usize).signals.drop_due()
     }
 
     /// Whether a process lives.
     pub fn is_live(&self, pid: u32) -> bool
         ensures { IsTrue result ↔ IsLive self.now pid }
     {
-        match self.guests.get(pid as usize) {
-            Some(guest) => guest.is_some(),
-            None => false,
-        }
+        self.guests.has(pid as usize)
     }
 
     /// Whether a process has registers that a handler's return restores.
@@ -506,10 +458,7 @@ impl Bodies {
         requires live { IsLive self.now pid }
         ensures { IfSome (seen_in self.now pid) (λ v. result ≡ is_some v.body.slot) }
     {
-        match &self.guests[pid as usize] {
-            Some(guest) => guest.signals.slot().is_some(),
-            None => unreachable!(),
-        }
+        self.guests.at(pid as usize).signals.slot().is_some()
     }
 
     /// Whether a process holds a segment.
@@ -517,10 +466,7 @@ impl Bodies {
         requires live { IsLive self.now pid }
         ensures { IfSome (seen_in self.now pid) (λ v. result ≡ is_some v.body.segment) }
     {
-        match &self.guests[pid as usize] {
-            Some(guest) => guest.segment.is_some(),
-            None => unreachable!(),
-        }
+        self.guests.at(pid as usize).segment.is_some()
     }
 
     /// The event that made a process's private window.
@@ -528,10 +474,7 @@ impl Bodies {
         requires live { IsLive self.now pid }
         ensures { IfSome (seen_in self.now pid) (λ v. result ≡ v.body.window) }
     {
-        match &self.guests[pid as usize] {
-            Some(guest) => guest.made,
-            None => unreachable!(),
-        }
+        self.guests.at(pid as usize).window.made
     }
 
     /// The event that made the segment that a process holds, if it holds one.
@@ -539,10 +482,7 @@ impl Bodies {
         requires live { IsLive self.now pid }
         ensures { IfSome (seen_in self.now pid) (λ v. result ≡ v.body.segment) }
     {
-        match &self.guests[pid as usize] {
-            Some(guest) => guest.shared(),
-            None => unreachable!(),
-        }
+        self.guests.at(pid as usize).segment_event()
     }
 
     /// The blocks that aren't all zero of the segment that a process holds, in order of number; none
@@ -552,10 +492,8 @@ impl Bodies {
         ensures { IfOk result (λ blocks. IfSome (seen_in self.now pid) (λ v.
             blocks ≡ blocks_of v.segment)) }
     {
-        match &self.guests[pid as usize] {
-            Some(guest) => held::segment_blocks(self.alloc, guest, &self.segments),
-            None => unreachable!(),
-        }
+        let guest = self.guests.at(pid as usize);
+        self.memories.segment_blocks(self.alloc, guest)
     }
 
     /// The registers of a process.
@@ -563,10 +501,7 @@ impl Bodies {
         requires live { IsLive self.now pid }
         ensures { option_map (λ v. v.body.cpu) (seen_in self.now pid) ≡ Some result.now }
     {
-        match &self.guests[pid as usize] {
-            Some(guest) => &guest.cpu,
-            None => unreachable!(),
-        }
+        &self.guests.at(pid as usize).cpu
     }
 
     /// The signal that is delivered next.
@@ -575,10 +510,7 @@ impl Bodies {
         ensures due { IfSome (signals_in self.now pid) (λ s. result ≡ due_signal s) }
         ensures signal { IfSome result (λ signal. IsTrue (is_signal signal)) }
     {
-        match &self.guests[pid as usize] {
-            Some(guest) => guest.signals.due(),
-            None => unreachable!(),
-        }
+        self.guests.at(pid as usize).signals.due()
     }
 
     /// A signal's handler, 0 where it has none.
@@ -587,9 +519,6 @@ impl Bodies {
         requires signal { IsTrue (is_signal signal) }
         ensures { IfSome (watch_in self.now pid) (λ w. result ≡ handler_of w.handlers signal) }
     {
-        match &self.guests[pid as usize] {
-            Some(guest) => guest.signals.handler(signal),
-            None => unreachable!(),
-        }
+        self.guests.at(pid as usize).signals.handler(signal)
     }
 }

@@ -6,8 +6,8 @@
 
 mod bodies;
 mod guest;
-mod held;
 mod law;
+mod memories;
 mod reach;
 mod registers;
 mod running;

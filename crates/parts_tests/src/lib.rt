@@ -14,6 +14,8 @@ mod groups;
 #[cfg(test)]
 mod images;
 #[cfg(test)]
+mod numbered;
+#[cfg(test)]
 mod origins;
 #[cfg(test)]
 mod pipes;

@@ -1,43 +1,50 @@
-use Rattle.std.proofs.Common.{List, None, Option, ap, refl, set, ◌∙◌}
+use Rattle.std.proofs.Common.{◌≡◌, List, None, Option, Some, ap, set, subst, sym, ◌∙◌}
 use Rattle.acts_model.specs.Acts.{done}
 use Rattle.guest_bodies.specs.Follows.{Follows, SetsWatch}
-use Rattle.guest_bodies.specs.Kept.{released}
+use Rattle.guest_bodies.specs.Kept.{IsKept, released, segment_part, shown_all, window_part}
 use Rattle.guest_bodies.specs.Shown.{Guests}
 use Rattle.guest_bodies.specs.declared.guest.Guest.{Guest}
-use Rattle.guest_bodies.proofs.Changes.{live-there, set-changes, there-of}
-use Rattle.guest_bodies.proofs.Ends.{sound-gone, follows-end, ends-watch}
+use Rattle.guest_bodies.proofs.Changes.{live-there, set-changes}
+use Rattle.guest_bodies.proofs.Ends.{ends-watch, follows-end, sound-gone}
 use Rattle.guest_bodies.proofs.Holders.{given-back}
-use Rattle.guest_bodies.proofs.InPlace.{place}
-use Rattle.guest_bodies.proofs.Released.{keyed, released-kept, unseen}
-use Rattle.guest_bodies.proofs.Seen.{inside-there}
+use Rattle.guest_bodies.proofs.InPlace.{some-there}
+use Rattle.guest_bodies.proofs.Released.{both-kept, both-unseen}
+use Rattle.guest_bodies.proofs.bodies.Bodies.ends.Goals.{After-release_segment}
 use Rattle.guest_bodies.proofs.bodies.Bodies.ends.Goals as goal
 
-pub index-requires : goal.index-requires
-index-requires c =
-    inside-there c.args.self.now c.self.inside.guests.items c.self.inside.segments.items c.args.pid c.self.inside.guests.len c.self.inside.guests.ok.0 c.self.view_is c.requires.live
+pub take_at-guest-requires : goal.take_at-guest-requires
+take_at-guest-requires c = live-there c.args.self.now c.self.inside.guests c.self.inside.memories c.args.pid c.self.view_is c.requires.live
 
-pub release-requires : goal.release-requires
-release-requires c =
-    let at = place c.args.self.now c.self.inside.guests.items c.self.inside.segments.items c.args.pid c.index.result.now c.in-Some.guest c.in-Some.guest c.self.view_is c.self.invariant.sound c.requires.live c.index.ensures c.in-Some.is in
-    keyed c.in-Some.guest.segment c.self.inside.segments.items (there-of c.args.pid c.in-Some.guest c.self.inside.guests.items c.self.inside.segments.items at.sound at.stands)
+abbrev left : After-release_segment → List (Option Guest)
+left c = set c.self.inside.guests c.args.pid None
+
+window_goes : (c : After-release_segment) → c.release_window.new.self ≡ record c.self.inside.memories { windows = released window_part (left c) (Some c.take_at-guest.result.window) c.self.inside.memories.windows }
+window_goes c = c.release_window.ensures ∙ ap (λ (all : List (Option Guest)). record c.self.inside.memories { windows = released window_part all (Some c.take_at-guest.result.window) c.self.inside.memories.windows }) (c.as_slice.ensures ∙ c.take_at-guest.ensures.rest)
+
+segment_goes : (c : After-release_segment) → c.release_segment.new.self ≡ record c.release_window.new.self { segments = released segment_part (left c) c.take_at-guest.result.segment c.release_window.new.self.segments }
+segment_goes c = c.release_segment.ensures ∙ ap (λ (all : List (Option Guest)). record c.release_window.new.self { segments = released segment_part all c.take_at-guest.result.segment c.release_window.new.self.segments }) (c.as_slice-2.ensures ∙ c.take_at-guest.ensures.rest)
+
+unseen : (c : After-release_segment) (P : Guests → Type 0) → P (shown_all (left c) c.self.inside.memories) → P (shown_all c.take_at-guest.new.self c.release_segment.new.self)
+unseen c P holds =
+    subst (λ (all : List (Option Guest)). P (shown_all all c.release_segment.new.self)) (sym c.take_at-guest.ensures.rest)
+    (both-unseen (left c) c.self.inside.memories c.release_window.new.self c.release_segment.new.self c.take_at-guest.result.window c.take_at-guest.result.segment (window_goes c) (segment_goes c) P holds)
 
 pub invariant_of-self : goal.invariant_of-self
 invariant_of-self c =
-    let at = place c.args.self.now c.self.inside.guests.items c.self.inside.segments.items c.args.pid c.index.result.now c.in-Some.guest c.in-Some.guest c.self.view_is c.self.invariant.sound c.requires.live c.index.ensures c.in-Some.is in
-    let there = live-there c.args.self.now c.self.inside.guests.items c.self.inside.segments.items c.args.pid c.self.view_is c.requires.live in
-    let gone = set-changes c.args.pid None c.self.inside.guests.items there in
-    released-kept (set c.self.inside.guests.items c.args.pid None) c.self.inside.segments.items c.in-Some.guest.segment c.release.new.segments.items (c.release.ensures ∙ ap (λ (all : List (Option Guest)). released all c.in-Some.guest.segment c.self.inside.segments.items) c.deref.ensures.value) c.in-Some.guest.segment refl
-    (sound-gone c.args.pid c.self.inside.guests.items (set c.self.inside.guests.items c.args.pid None) c.self.inside.segments.items c.self.invariant.sound gone)
-    (given-back c.args.pid c.in-Some.guest None c.self.inside.guests.items (set c.self.inside.guests.items c.args.pid None) c.self.inside.segments.items at.stands gone c.self.invariant.held)
+    let stands = c.take_at-guest.ensures.value in
+    let gone = set-changes c.args.pid None c.self.inside.guests (some-there c.self.inside.guests c.args.pid c.take_at-guest.result stands) in
+    subst (λ (all : List (Option Guest)). IsKept all c.release_segment.new.self) (sym c.take_at-guest.ensures.rest)
+    (both-kept (left c) c.self.inside.memories c.release_window.new.self c.release_segment.new.self c.take_at-guest.result.window c.take_at-guest.result.segment (window_goes c) (segment_goes c)
+    (sound-gone c.args.pid c.self.inside.guests (left c) c.self.inside.memories c.self.invariant.sound gone)
+    (given-back window_part c.args.pid c.take_at-guest.result None c.self.inside.guests (left c) c.self.inside.memories.windows stands gone c.self.invariant.windows)
+    (given-back segment_part c.args.pid c.take_at-guest.result None c.self.inside.guests (left c) c.self.inside.memories.segments stands gone c.self.invariant.segments))
 
 pub returns-clause-follows : goal.returns-clause-follows
 returns-clause-follows c event act end =
-    unseen (set c.self.inside.guests.items c.args.pid None) c.self.inside.segments.items c.in-Some.guest.segment c.release.new.segments.items (c.release.ensures ∙ ap (λ (all : List (Option Guest)). released all c.in-Some.guest.segment c.self.inside.segments.items) c.deref.ensures.value)
-    (λ (new : Guests). Follows c.args.self.now (done c.args.pid event act) new)
-    (follows-end c.args.self.now c.args.pid event act c.self.inside.guests.items c.self.inside.segments.items end c.self.view_is c.requires.live)
+    unseen c (λ (new : Guests). Follows c.args.self.now (done c.args.pid event act) new)
+    (follows-end c.args.self.now c.args.pid event act c.self.inside.guests c.self.inside.memories end c.self.view_is c.requires.live)
 
 pub returns-clause-watches : goal.returns-clause-watches
 returns-clause-watches c =
-    unseen (set c.self.inside.guests.items c.args.pid None) c.self.inside.segments.items c.in-Some.guest.segment c.release.new.segments.items (c.release.ensures ∙ ap (λ (all : List (Option Guest)). released all c.in-Some.guest.segment c.self.inside.segments.items) c.deref.ensures.value)
-    (λ (new : Guests). SetsWatch c.args.pid None c.args.self.now new)
-    (ends-watch c.args.self.now c.args.pid c.self.inside.guests.items c.self.inside.segments.items c.self.view_is c.requires.live)
+    unseen c (λ (new : Guests). SetsWatch c.args.pid None c.args.self.now new)
+    (ends-watch c.args.self.now c.args.pid c.self.inside.guests c.self.inside.memories c.self.view_is c.requires.live)

@@ -1,62 +1,59 @@
-use Rattle.std.proofs.Common.{◌<◌, ℕ}
+use Rattle.std.proofs.Common.{◌<◌, ℕ, Option, Some, IfSome, ap, set, subst, sym}
 use Rattle.std.proofs.lemmas.Result.{IfOk-weaker, on_err_weaker}
-use Rattle.guest_bodies.specs.HeldTold.{HeldFails}
-use Rattle.guest_bodies.proofs.Changes.{there-of}
-use Rattle.guest_bodies.proofs.HeldTold.{answer-runs}
-use Rattle.guest_bodies.proofs.InPlace.{place}
-use Rattle.guest_bodies.proofs.Tolds.{none-there, runs-kept, runs-watches, stops-there, told-many}
-use Rattle.guest_bodies.proofs.Seen.{held-there, inside-there}
+use Rattle.acts_model.specs.Bodies.{View}
+use Rattle.acts_model.specs.Views.{stands_at}
+use Rattle.guest_bodies.specs.Kept.{contents_of, shown_all, watch_of, windows_for}
+use Rattle.guest_bodies.specs.Led.{LedFails, LedMany}
+use Rattle.guest_bodies.specs.Shown.{Guests}
+use Rattle.guest_bodies.specs.Told.{IsStop, ToldMany}
+use Rattle.guest_bodies.specs.declared.guest.Guest.{Guest}
+use Rattle.guest_bodies.proofs.Changes.{live-there, there-of}
+use Rattle.guest_bodies.proofs.InPlace.{moved-kept, moved-watches, place}
+use Rattle.guest_bodies.proofs.Many.{ran-so, sees-now, told-many}
+use Rattle.guest_bodies.proofs.bodies.Bodies.run_told.Goals.{After-self-1}
+use Rattle.guest_bodies.proofs.bodies.Bodies.run_told.Given.{Over}
 use Rattle.guest_bodies.proofs.bodies.Bodies.run_told.Goals as goal
 
-pub index_mut-requires : goal.index_mut-requires
-index_mut-requires g c =
-    inside-there c.args.self.now c.self.inside.guests.items c.self.inside.segments.items c.args.pid c.self.inside.guests.len c.self.inside.guests.ok.0 c.self.view_is c.requires.live
+pub at_mut-guest-requires : goal.at_mut-guest-requires
+at_mut-guest-requires g c = live-there c.args.self.now c.self.inside.guests c.self.inside.memories c.args.pid c.self.view_is c.requires.live
+
+pub run_told-requires : goal.run_told-requires
+run_told-requires g c = there-of c.args.pid c.at_mut-guest.result.now c.self.inside.guests c.self.inside.memories c.self.invariant.sound c.at_mut-guest.ensures.value
 
 pub invariant_of-self : goal.invariant_of-self
 invariant_of-self g c =
-    let at = place c.args.self.now c.self.inside.guests.items c.self.inside.segments.items c.args.pid c.index_mut.result.now c.in-Some.guest c.run_told.new.guest c.self.view_is c.self.invariant.sound c.requires.live c.index_mut.ensures.value c.in-Some.is in
-    let runs = answer-runs g.O.Observer.runs c.args.pid c.run_told.result c.args.count c.in-Some.guest c.self.inside.segments.items c.run_told.new.guest c.run_told.new.segments.items c.args.observer.now c.run_told.new.observer c.args.steps.now c.run_told.new.steps
-    (there-of c.args.pid c.in-Some.guest c.self.inside.guests.items c.self.inside.segments.items at.sound at.stands) c.run_told.ensures.told c.run_told.ensures.failed in
-    runs-kept at c.run_told.new.segments.items runs c.self.invariant.held
+    let at = place c.args.self.now c.self.inside.guests c.self.inside.memories c.args.pid c.at_mut-guest.result.now c.run_told.new.guest c.self.view_is c.self.invariant.sound c.at_mut-guest.ensures.value in
+    moved-kept at (ap (λ (g : Guest). g.window) c.run_told.ensures.guest) (ap (λ (g : Guest). g.segment) c.run_told.ensures.guest) (contents_of c.run_told.new.self c.at_mut-guest.result.now) c.run_told.new.self c.run_told.ensures.tables c.self.invariant
 
-pub unreachable-requires : goal.unreachable-requires
-unreachable-requires g c =
-    none-there c.args.self.now c.self.inside.guests.items c.self.inside.segments.items c.args.pid c.index_mut.result.now c.self.view_is c.requires.live c.index_mut.ensures.value c.in-None.is
+-- so many instructions that it ran, among all
+told : (g : Over) (c : After-self-1 g) (n : ℕ) (b : g.row.O.Denot) → LedMany (windows_for c.at_mut-guest.result.now.segment) g.O.Observer.runs c.args.pid n c.at_mut-guest.result.now.cpu (contents_of c.self.inside.memories c.at_mut-guest.result.now) c.args.observer.now c.run_told.new.guest.cpu (contents_of c.run_told.new.self c.at_mut-guest.result.now) b → ToldMany g.O.Observer.runs c.args.pid n c.args.self.now (shown_all (set c.self.inside.guests c.args.pid (Some c.run_told.new.guest)) c.run_told.new.self) c.args.observer.now b
+told g c n b led =
+    ran-so c.args.self.now c.self.inside.guests c.self.inside.memories c.args.pid c.at_mut-guest.result.now c.self.view_is c.self.invariant.sound c.at_mut-guest.ensures.value (λ (new : Guests). ToldMany g.O.Observer.runs c.args.pid n c.args.self.now new c.args.observer.now b) c.run_told.new.guest c.run_told.new.self c.run_told.ensures.guest c.run_told.ensures.tables
+    (told-many c.args.self.now c.self.inside.guests c.self.inside.memories c.args.pid c.at_mut-guest.result.now c.self.view_is c.self.invariant.sound c.at_mut-guest.ensures.value g.O.Observer.runs n c.run_told.new.guest.cpu (contents_of c.run_told.new.self c.at_mut-guest.result.now) c.args.observer.now b led)
 
 pub returns-clause-told : goal.returns-clause-told
-returns-clause-told g c =
-    let at = place c.args.self.now c.self.inside.guests.items c.self.inside.segments.items c.args.pid c.index_mut.result.now c.in-Some.guest c.run_told.new.guest c.self.view_is c.self.invariant.sound c.requires.live c.index_mut.ensures.value c.in-Some.is in
-    IfOk-weaker c.run_told.result _ _
-    (λ (ran : ℕ) many. told-many g.O.Observer.runs c.args.self.now c.self.inside.guests.items c.self.inside.segments.items c.args.pid c.in-Some.guest at.shown at.sound at.stands ran c.run_told.new.guest c.run_told.new.segments.items c.args.observer.now c.run_told.new.observer many)
-    c.run_told.ensures.told
+returns-clause-told g c = IfOk-weaker c.run_told.result _ _ (λ (ran : ℕ) led. told g c ran c.run_told.new.observer led) c.run_told.ensures.told
 
 pub returns-clause-stops : goal.returns-clause-stops
 returns-clause-stops g c =
-    let at = place c.args.self.now c.self.inside.guests.items c.self.inside.segments.items c.args.pid c.index_mut.result.now c.in-Some.guest c.run_told.new.guest c.self.view_is c.self.invariant.sound c.requires.live c.index_mut.ensures.value c.in-Some.is in
     IfOk-weaker c.run_told.result _ _
-    (λ (ran : ℕ) stops (less : ran < c.args.count). stops-there at c.run_told.new.segments.items (stops less))
+    (λ (ran : ℕ) stops (less : ran < c.args.count). subst (λ (o : Option View). IfSome o (λ v. IsStop (stands_at v)))
+    (sym (sees-now c.args.self.now c.self.inside.guests c.self.inside.memories c.args.pid c.at_mut-guest.result.now c.self.view_is c.self.invariant.sound c.at_mut-guest.ensures.value c.run_told.new.guest c.run_told.new.self)) (stops less))
     c.run_told.ensures.stops
 
 pub returns-clause-watches : goal.returns-clause-watches
 returns-clause-watches g c =
-    let at = place c.args.self.now c.self.inside.guests.items c.self.inside.segments.items c.args.pid c.index_mut.result.now c.in-Some.guest c.run_told.new.guest c.self.view_is c.self.invariant.sound c.requires.live c.index_mut.ensures.value c.in-Some.is in
-    let runs = answer-runs g.O.Observer.runs c.args.pid c.run_told.result c.args.count c.in-Some.guest c.self.inside.segments.items c.run_told.new.guest c.run_told.new.segments.items c.args.observer.now c.run_told.new.observer c.args.steps.now c.run_told.new.steps
-    (there-of c.args.pid c.in-Some.guest c.self.inside.guests.items c.self.inside.segments.items at.sound at.stands) c.run_told.ensures.told c.run_told.ensures.failed in
-    runs-watches at c.run_told.new.segments.items runs
+    let at = place c.args.self.now c.self.inside.guests c.self.inside.memories c.args.pid c.at_mut-guest.result.now c.run_told.new.guest c.self.view_is c.self.invariant.sound c.at_mut-guest.ensures.value in
+    moved-watches at (ap (λ (g : Guest). g.window) c.run_told.ensures.guest) (ap (λ (g : Guest). g.segment) c.run_told.ensures.guest) (contents_of c.run_told.new.self c.at_mut-guest.result.now) c.run_told.new.self c.run_told.ensures.tables (ap watch_of c.run_told.ensures.guest)
 
 pub returns-clause-failed : goal.returns-clause-failed
 returns-clause-failed g c =
-    let at = place c.args.self.now c.self.inside.guests.items c.self.inside.segments.items c.args.pid c.index_mut.result.now c.in-Some.guest c.run_told.new.guest c.self.view_is c.self.invariant.sound c.requires.live c.index_mut.ensures.value c.in-Some.is in
     on_err_weaker c.run_told.result
-    (λ (f : HeldFails g.O.Observer.runs c.args.pid c.args.count c.in-Some.guest c.self.inside.segments.items c.run_told.new.guest c.run_told.new.segments.items c.args.observer.now c.args.steps.now c.run_told.new.steps). record {
+    (λ (f : LedFails (windows_for c.at_mut-guest.result.now.segment) g.O.Observer.runs c.args.pid c.args.count c.at_mut-guest.result.now.cpu (contents_of c.self.inside.memories c.at_mut-guest.result.now) c.args.observer.now c.run_told.new.guest.cpu (contents_of c.run_told.new.self c.at_mut-guest.result.now) c.args.steps.now c.run_told.new.steps). record {
       ran = f.ran;
       observer = f.observer;
-      told = told-many g.O.Observer.runs c.args.self.now c.self.inside.guests.items c.self.inside.segments.items c.args.pid c.in-Some.guest at.shown at.sound at.stands f.ran c.run_told.new.guest c.run_told.new.segments.items c.args.observer.now f.observer f.held;
+      told = told g c f.ran f.observer f.led;
       less = f.less;
       counted = f.counted;
     })
     c.run_told.ensures.failed
-
-pub run_told-requires : goal.run_told-requires
-run_told-requires g c =
-    held-there c.args.self.now c.self.inside.guests.items c.self.inside.segments.items c.args.pid c.index_mut.result.now c.in-Some.guest c.self.view_is c.self.invariant.sound c.requires.live c.index_mut.ensures.value c.in-Some.is

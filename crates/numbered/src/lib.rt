@@ -1,0 +1,6 @@
+//! Values by number, where a number may have none.
+#![tactic(auto)]
+
+mod numbered;
+
+pub use numbered::Numbered;
