@@ -180,6 +180,7 @@ impl Bodies {
 
     /// Copies the bytes at an address of a process, as many as the buffer has, where they lie whole in
     /// one window.
+    #[inline(always)]
     pub fn read_into(&self, pid: u32, at: u64, buf: &mut [u8]) -> Result<(), BadAddress>
         requires live { IsLive self.now pid }
         ensures ok { OnOk result (IfSome (seen_in self.now pid) (λ v.

@@ -323,6 +323,7 @@ impl Memories {
     }
 
     // The segment that a process holds.
+    #[inline(always)]
     fn segment_of(&self, guest: &Guest) -> Option<&Segment>
         requires { AreThere self.now guest.now }
         ensures { option_copied result ≡
@@ -344,6 +345,7 @@ impl Memories {
 
     /// Copies the bytes of a range of addresses, as many as the buffer has, where they lie whole in one
     /// window.
+    #[inline(always)]
     pub fn read_into(&self, guest: &Guest, at: u64, buf: &mut [u8]) -> Result<(), BadAddress>
         requires { AreThere self.now guest.now }
         ensures ok { OnOk result

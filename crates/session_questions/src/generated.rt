@@ -1,6 +1,5 @@
 // What the generator did.
 ghost use Rattle.std.specs.Prelude.{◌≡◌, ◌+◌, ◌≤◌, ◌++◌, IfErr, IfOk, OnOk, length, string_bytes};
-ghost use Rattle.acts_model.specs.Records as records;
 ghost use Rattle.generator.specs.Sums.{written_by};
 ghost use Rattle.history_index.specs.Indexes.{AreCountable};
 ghost use Rattle.log_store.specs.Log.{spellings};
@@ -12,19 +11,13 @@ ghost use Rattle.session_questions.specs.Generated.{writes_cost, generated_cost,
 use crate::Asking;
 use crate::short::short_logs_are_countable;
 use crate::targets::event_target;
+use acts_model::is_event;
 use arn_base::{NoMemory, Record, Steps};
 use generator::{push_gen, written_by, written_sum};
 use query_engine::{Answer, QueryError};
 use rv64_model::Linkage;
 use session_reports::push_error;
 use std::sync::ledger::Ledger;
-
-// Every record is an event but a slice.
-fn is_event(entry: &Record) -> bool
-    ensures { result ≡ records.is_event entry.now }
-{
-    !matches!(entry, Record::Slice { .. })
-}
 
 // How many pairs answer.
 fn pair_count(answer: Answer) -> u64

@@ -7,7 +7,7 @@ use arn_base::NoMemory;
 use parts_model::limits::{WINDOW_LEN, WINDOW_START};
 use rv64_isa::Reg;
 use std::alloc::Global;
-use taint_members::MemberSets;
+use taint_members::{NewMember, clear_result};
 use taint_pages::{Row, SetNumbers, Unset};
 use taint_spans::SpanSets;
 
@@ -43,23 +43,21 @@ fn count_row(alloc: Global, first: u32) -> Result<Row, NoMemory>
 }
 
 /// A member that begins without a parent: each byte is an item by itself, but for x10.
-pub fn begun(alloc: Global, sets: &mut SpanSets, event: u64) -> Result<MemberSets, NoMemory>
+pub fn begun(alloc: Global, sets: &mut SpanSets, event: u64) -> Result<NewMember, NoMemory>
     ensures registers { IfOk result (λ member. BeginsRegisters sets.new event member.registers) }
     ensures slot { IfOk result (λ member. AreItemsOfRow sets.new event 248 member.slot) }
     ensures window { IfOk result (λ member. AreItemsFrom sets.new event member.window) }
-    ensures made { IfOk result (λ member. member.made ≡ event) }
     ensures segment { IfOk result (λ member. member.segment ≡ None) }
     ensures before { StandAsBefore sets.old sets.new }
 {
     let first = sets.receive(event, 0, 2 * REGISTER_BYTES as usize)?;
     let start = sets.receive(event, WINDOW_START, WINDOW_LEN as usize)?;
-    let mut member = MemberSets {
-        registers: count_row(alloc, first)?,
+    let mut registers = count_row(alloc, first)?;
+    clear_result(&mut registers);
+    Ok(NewMember {
+        registers,
         slot: count_row(alloc, first + REGISTER_BYTES)?,
         window: SetNumbers::new(alloc, WINDOW_PAGES, Unset::From(start))?,
-        made: event,
         segment: None,
-    };
-    member.returns();
-    Ok(member)
+    })
 }

@@ -2,7 +2,7 @@
 ghost use Rattle.std.specs.Prelude.{◌≡◌, ◌<◌, ◌^◌, IfOk, OnOk};
 ghost use Rattle.taint_spans.specs.Numbered.{StandAsBefore};
 ghost use Rattle.taint_events.specs.Bytes.{AreEmpty, AreGiven, AreReceived, IsStatus};
-ghost use Rattle.taint_members.specs.Access.{HoldsKey, number_at};
+ghost use Rattle.taint_members.specs.Access.{HoldsKeys, number_at};
 
 use arn_base::NoMemory;
 use rv64_isa::Reg;
@@ -57,18 +57,18 @@ pub fn received(
 pub fn given(
     alloc: Global,
     member: &MemberSets,
-    segments: &[SetNumbers],
+    memories: &[SetNumbers],
     at: u64,
     len: usize,
 ) -> Result<Vec<u32>, NoMemory>
-    requires held { HoldsKey member.now.segment segments.now }
+    requires held { HoldsKeys member.now memories.now }
     ensures { IfOk result (λ numbers.
-        AreGiven (number_at member.now segments.now at) len numbers.items) }
+        AreGiven (number_at member.now memories.now at) len numbers.items) }
 {
     few(len)?;
     let mut numbers = Vec::new(alloc);
     for k in 0..len {
-        numbers.push(number(member, segments, at, k))?;
+        numbers.push(number(member, memories, at, k))?;
     }
     Ok(numbers)
 }

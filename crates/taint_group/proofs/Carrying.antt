@@ -6,19 +6,20 @@ use Rattle.std.proofs.lemmas.Grind.{get_or-set_at}
 use Rattle.std.proofs.lemmas.List.{get_or-set_other, length-set, get_or_default}
 use Rattle.parts_model.specs.Numbered.{nth}
 use Rattle.rv64_model.specs.declared.linkage.Linkage.{Linkage}
-use Rattle.taint_members.specs.Access.{HoldsKey, Segments, held_numbers}
+use Rattle.taint_members.specs.Access.{Memories, held_numbers}
 use Rattle.taint_members.specs.Carried.{CarriesMember}
 use Rattle.taint_members.specs.declared.member.MemberSets.{MemberSets}
-use Rattle.taint_members.specs.declared.member.Shared.{Shared}
+use Rattle.taint_members.specs.declared.member.Held.{Held}
 use Rattle.taint_spans.specs.Carried.{Carried, CarriesOn, HasNumber, HaveNumbers}
 use Rattle.taint_state.specs.Carried as state
 use Rattle.taint_state.specs.Carried.{CarriesEvents, CarriesShow, IfBoth}
 use Rattle.taint_state.specs.Kept.{KeptHeard, shown}
 use Rattle.taint_state.specs.RunsShow.{kept_member}
 use Rattle.taint_steps.specs.Table.{Tables}
-use Rattle.taint_group.specs.Carried.{CarriesSegments}
-use Rattle.taint_group.specs.Tables.{AreKeyed, AreSoundTables, HaveOneKey, kept_in}
-use Rattle.taint_group.proofs.Tables.{nth-map, nth-other}
+use Rattle.taint_group.specs.Carried.{CarriesMemories}
+use Rattle.taint_group.specs.Tables.{AreKeyed, AreSoundTables, kept_in}
+use Rattle.taint_group.proofs.Keyed.{HoldsSame, keyed-from, nth-map}
+use Rattle.taint_group.proofs.Tables.{nth-other}
 use Rattle.taint_group.proofs.Turning.{nth-past, nth-place}
 
 -- what was carried over stays so
@@ -32,8 +33,7 @@ member-still : (a b : Carried) (m n : MemberSets) → CarriesOn a b → CarriesM
 member-still a b m n on h = record {
   registers = have-still a b m.registers n.registers on h.registers;
   slot = have-still a b m.slot n.slot on h.slot;
-  window = have-still a b m.window n.window on h.window;
-  made = h.made;
+  window = h.window;
   segment = h.segment;
 }
 
@@ -105,23 +105,23 @@ members-all begun now first list place so all p = by (nat_lt p place) refl
         let none = nth-past first p (omega arith) in
         subst (λ o. IfBoth (CarriesMember now) o (nth list p)) (sym none) (subst (λ o. IfBoth (CarriesMember now) None o) (sym (so.rest p behind ∙ none)) tt)
 
--- and so are segments
-pub record SegmentsTo (begun now : Carried) (first list : Segments) (place : ℕ) : Type 0 where
+-- and so are memories
+pub record MemoriesTo (begun now : Carried) (first list : Memories) (place : ℕ) : Type 0 where
   pub len : length list ≡ length first
   pub done : (k : ℕ) → k < place → HaveNumbers now (slice_index_or first k []) (slice_index_or list k [])
   pub rest : (k : ℕ) → place ≤ k → slice_index_or list k [] ≡ slice_index_or first k []
   pub on : CarriesOn begun now
 
-pub segments-first : (sets : Carried) (list : Segments) → SegmentsTo sets sets list list 0
-segments-first sets list = record { len = refl; done = λ k below. absurd (omega arith); rest = λ k from. refl; on = record { from = refl; still = λ was is h. h } }
+pub memories-first : (sets : Carried) (list : Memories) → MemoriesTo sets sets list list 0
+memories-first sets list = record { len = refl; done = λ k below. absurd (omega arith); rest = λ k from. refl; on = record { from = refl; still = λ was is h. h } }
 
-pub segments-on : (begun now next : Carried) (first list : Segments) (place : ℕ) → SegmentsTo begun now first list place → CarriesOn now next → CarriesOn begun next
-segments-on begun now next first list place so on = on-twice begun now next so.on on
+pub memories-on : (begun now next : Carried) (first list : Memories) (place : ℕ) → MemoriesTo begun now first list place → CarriesOn now next → CarriesOn begun next
+memories-on begun now next first list place so on = on-twice begun now next so.on on
 
-module _ (begun now next : Carried) (first list : Segments) (place : ℕ) (was new : List ℕ) (so : SegmentsTo begun now first list place) (inside : place < length list) (read : was ≡ slice_index_or list place was)
+module _ (begun now next : Carried) (first list : Memories) (place : ℕ) (was new : List ℕ) (so : MemoriesTo begun now first list place) (inside : place < length list) (read : was ≡ slice_index_or list place was)
     (on : CarriesOn now next) where
-  pub segments-more : HaveNumbers next was new → SegmentsTo begun next first (slice_set list place new) (place + 1)
-  segments-more one = record {
+  pub memories-more : HaveNumbers next was new → MemoriesTo begun next first (slice_set list place new) (place + 1)
+  memories-more one = record {
     len = length-set list place new ∙ so.len;
     done = λ k below. by k below (k == place) refl;
     rest = λ k behind. get_or-set_other list place k new [] (λ e. omega arith) ∙ so.rest k (omega arith);
@@ -137,8 +137,8 @@ module _ (begun now next : Carried) (first list : Segments) (place : ℕ) (was n
           let apart = eqb-false k place e in
           subst (λ l. HaveNumbers next (slice_index_or first k []) l) (sym (get_or-set_other list place k new [] apart)) (have-still now next _ _ on (so.done k (omega (arith, apart))))
 
-pub segments-all : (begun now : Carried) (first list : Segments) (place : ℕ) → SegmentsTo begun now first list place → length first ≤ place → CarriesSegments now first list
-segments-all begun now first list place so all = record { count = so.len; each = λ k. by k (nat_lt k place) refl }
+pub memories-all : (begun now : Carried) (first list : Memories) (place : ℕ) → MemoriesTo begun now first list place → length first ≤ place → CarriesMemories now first list
+memories-all begun now first list place so all = record { count = so.len; each = λ k. by k (nat_lt k place) refl }
   where
     by : (k : ℕ) (b : Bool) → nat_lt k place ≡ b → HaveNumbers now (slice_index_or first k []) (slice_index_or list k [])
     by k true e = so.done k (ltb-true k place e)
@@ -148,44 +148,33 @@ segments-all begun now first list place so all = record { count = so.len; each =
         subst (λ l. HaveNumbers now l (slice_index_or list k [])) (sym none) (subst (λ l. HaveNumbers now [] l) (sym (so.rest k behind ∙ none)) (record { len = refl; each = λ j below. absurd (omega arith) }))
 
 -- what is kept of a member
-module _ (sets : Carried) (s t : Segments) (carried : CarriesSegments sets s t) where
-  held : (o : Option Shared) → HaveNumbers sets (held_numbers o s) (held_numbers o t)
+module _ (sets : Carried) (s t : Memories) (carried : CarriesMemories sets s t) where
+  held : (o : Option Held) → HaveNumbers sets (held_numbers o s) (held_numbers o t)
   held None = record { len = refl; each = λ k below. absurd (omega arith) }
   held (Some shared) = carried.each shared.key
 
   member-kept : (m n : MemberSets) → CarriesMember sets m n → state.CarriesMember sets (kept_member s m) (kept_member t n)
   member-kept m n h = record {
-    holds = λ i. record { window = h.made i; segment = option_map (λ (shared : Shared). shared.made) (h.segment i) };
+    holds = λ i. record { window = (h.window i).made; segment = option_map (λ (shared : Held). shared.made) (h.segment i) };
     registers = h.registers;
     slot = h.slot;
-    window = h.window;
+    window = subst (λ (w : Held). HaveNumbers sets (slice_index_or s m.window.key []) (slice_index_or t w.key [])) (sym h.window) (carried.each m.window.key);
     segment = subst (λ o. HaveNumbers sets (held_numbers m.segment s) (held_numbers o t)) (sym h.segment) (held m.segment);
   }
 
-  grown : (o : Option Shared) → HoldsKey o s → HoldsKey o t
-  grown None h = tt
-  grown (Some shared) h = let same = carried.count in omega arith
+holds-still : (sets : Carried) (o p : Option MemberSets) → IfBoth (CarriesMember sets) o p → HoldsSame p o
+holds-still sets None None h = tt
+holds-still sets None (Some n) h = absurd h
+holds-still sets (Some m) None h = tt
+holds-still sets (Some m) (Some n) h = (h.window, h.segment)
 
-  holds-key : (m n : MemberSets) → CarriesMember sets m n → HoldsKey m.segment s → HoldsKey n.segment t
-  holds-key m n h k = subst (λ o. HoldsKey o t) (sym h.segment) (grown m.segment k)
+-- each memory that a member holds is in the table, once
+still-keyed : (sets : Carried) (x y : Tables) → CarriesMemories sets x.memories y.memories → ((p : ℕ) → IfBoth (CarriesMember sets) (nth x.members p) (nth y.members p)) → AreKeyed x → AreKeyed y
+still-keyed sets x y carried both keyed = keyed-from x y keyed (let same = carried.count in omega arith) (λ p. (p, holds-still sets (nth x.members p) (nth y.members p) (both p)))
 
--- each segment that a member holds is in the table, once
-still-keyed : (sets : Carried) (x y : Tables) → CarriesSegments sets x.segments y.segments → ((p : ℕ) → IfBoth (CarriesMember sets) (nth x.members p) (nth y.members p)) → AreKeyed x → AreKeyed y
-still-keyed sets x y carried both keyed = record {
-  held = λ p.
-      both-if (CarriesMember sets) (λ (m : MemberSets). HoldsKey m.segment x.segments) (λ (m : MemberSets). HoldsKey m.segment y.segments)
-      (holds-key sets x.segments y.segments carried) (nth x.members p) (nth y.members p) (both p) (keyed.held p);
-  once = λ p q.
-      both-if (CarriesMember sets) (λ (m : MemberSets). IfSome (nth x.members q) (λ (n : MemberSets). HaveOneKey m.segment n.segment)) (λ (m : MemberSets). IfSome (nth y.members q) (λ (n : MemberSets). HaveOneKey m.segment n.segment))
-      (λ m o h one.
-      both-if (CarriesMember sets) (λ (n : MemberSets). HaveOneKey m.segment n.segment) (λ (n : MemberSets). HaveOneKey o.segment n.segment)
-      (λ n r k key. subst (λ s. HaveOneKey s r.segment) (sym h.segment) (subst (HaveOneKey m.segment) (sym k.segment) key)) (nth x.members q) (nth y.members q) (both q) one)
-      (nth x.members p) (nth y.members p) (both p) (keyed.once p q);
-}
-
--- segments and members that were carried over stay so
-pub segments-still : (a b : Carried) (old new : Segments) → CarriesOn a b → CarriesSegments a old new → CarriesSegments b old new
-segments-still a b old new on h = record { count = h.count; each = λ key. have-still a b (slice_index_or old key []) (slice_index_or new key []) on (h.each key) }
+-- memories and members that were carried over stay so
+pub memories-still : (a b : Carried) (old new : Memories) → CarriesOn a b → CarriesMemories a old new → CarriesMemories b old new
+memories-still a b old new on h = record { count = h.count; each = λ key. have-still a b (slice_index_or old key []) (slice_index_or new key []) on (h.each key) }
 
 pub members-still : (a b c : Carried) (old new : List (Option MemberSets)) → CarriesOn a b → CarriesOn b c → ((p : ℕ) → IfBoth (CarriesMember a) (nth old p) (nth new p)) → (p : ℕ) → IfBoth (CarriesMember c) (nth old p) (nth new p)
 members-still a b c old new f g h p = entry-still a c (nth old p) (nth new p) (on-twice a b c f g) (h p)
@@ -200,19 +189,19 @@ pub record Collects (begun : Carried) (linkage : Linkage) (heard fresh : List Ke
   pub zero : HasNumber begun 0 0
   pub on : CarriesOn begun done
   pub members : (p : ℕ) → IfBoth (CarriesMember done) (nth x.members p) (nth y.members p)
-  pub segments : CarriesSegments done x.segments y.segments
+  pub memories : CarriesMemories done x.memories y.memories
   pub events : CarriesEvents done heard fresh
   pub into : y.sets ≡ done.into
 
 pub collected : (begun : Carried) (linkage : Linkage) (heard fresh : List KeptHeard) (x y : Tables) → CarriesShow → Collects begun linkage heard fresh x y → AreSoundTables linkage heard x
     → (shown (kept_in linkage fresh y) ≡ shown (kept_in linkage heard x)) × AreSoundTables linkage fresh y
-collected begun linkage heard fresh x y show c sound = (same.shown, record { kept = same.sound sound.kept; keyed = still-keyed c.done x y c.segments c.members sound.keyed })
+collected begun linkage heard fresh x y show c sound = (same.shown, record { kept = same.sound sound.kept; keyed = still-keyed c.done x y c.memories c.members sound.keyed })
   where
-    kept : (p : ℕ) → IfBoth (state.CarriesMember c.done) (nth (map (option_map (kept_member x.segments)) x.members) p) (nth (map (option_map (kept_member y.segments)) y.members) p)
+    kept : (p : ℕ) → IfBoth (state.CarriesMember c.done) (nth (map (option_map (kept_member x.memories)) x.members) p) (nth (map (option_map (kept_member y.memories)) y.members) p)
     kept p =
-        subst (λ o. IfBoth (state.CarriesMember c.done) o (nth (map (option_map (kept_member y.segments)) y.members) p)) (sym (nth-map (kept_member x.segments) x.members p))
-        (subst (λ o. IfBoth (state.CarriesMember c.done) (option_map (kept_member x.segments) (nth x.members p)) o) (sym (nth-map (kept_member y.segments) y.members p))
-        (both-map (CarriesMember c.done) (state.CarriesMember c.done) (kept_member x.segments) (kept_member y.segments) (member-kept c.done x.segments y.segments c.segments) (nth x.members p) (nth y.members p) (c.members p)))
+        subst (λ o. IfBoth (state.CarriesMember c.done) o (nth (map (option_map (kept_member y.memories)) y.members) p)) (sym (nth-map (kept_member x.memories) x.members p))
+        (subst (λ o. IfBoth (state.CarriesMember c.done) (option_map (kept_member x.memories) (nth x.members p)) o) (sym (nth-map (kept_member y.memories) y.members p))
+        (both-map (CarriesMember c.done) (state.CarriesMember c.done) (kept_member x.memories) (kept_member y.memories) (member-kept c.done x.memories y.memories c.memories) (nth x.members p) (nth y.members p) (c.members p)))
 
     same : state.ShowsSame (kept_in linkage heard x) (kept_in linkage fresh y)
     same = show c.done (kept_in linkage heard x) (kept_in linkage fresh y) (record {
@@ -226,11 +215,11 @@ collected begun linkage heard fresh x y show c sound = (same.shown, record { kep
 
 -- the parts come to this where all of them were carried over
 module _ {E : Type 0} (r : Result Unit E) (begun done : Carried) (linkage : Linkage) (heard fresh : List KeptHeard) (x y : Tables) (show : CarriesShow) (from : begun.from ≡ x.sets) (zero : HasNumber begun 0 0) (into : y.sets ≡ done.into) (sound : AreSoundTables linkage heard x) where
-  pub all-collected : OnOk r ((p : ℕ) → IfBoth (CarriesMember done) (nth x.members p) (nth y.members p)) → OnOk r (CarriesSegments done x.segments y.segments) → OnOk r (CarriesEvents done heard fresh) → OnOk r (CarriesOn begun done)
+  pub all-collected : OnOk r ((p : ℕ) → IfBoth (CarriesMember done) (nth x.members p) (nth y.members p)) → OnOk r (CarriesMemories done x.memories y.memories) → OnOk r (CarriesEvents done heard fresh) → OnOk r (CarriesOn begun done)
       → OnOk r ((shown (kept_in linkage fresh y) ≡ shown (kept_in linkage heard x)) × AreSoundTables linkage fresh y)
-  all-collected members segments events on = by r members segments events on
+  all-collected members memories events on = by r members memories events on
     where
-      by : (q : Result Unit E) → OnOk q ((p : ℕ) → IfBoth (CarriesMember done) (nth x.members p) (nth y.members p)) → OnOk q (CarriesSegments done x.segments y.segments) → OnOk q (CarriesEvents done heard fresh) → OnOk q (CarriesOn begun done)
+      by : (q : Result Unit E) → OnOk q ((p : ℕ) → IfBoth (CarriesMember done) (nth x.members p) (nth y.members p)) → OnOk q (CarriesMemories done x.memories y.memories) → OnOk q (CarriesEvents done heard fresh) → OnOk q (CarriesOn begun done)
           → OnOk q ((shown (kept_in linkage fresh y) ≡ shown (kept_in linkage heard x)) × AreSoundTables linkage fresh y)
-      by (Ok u) members segments events on = collected begun linkage heard fresh x y show (record { done = done; from = from; zero = zero; on = on; members = members; segments = segments; events = events; into = into }) sound
-      by (Err e) members segments events on = tt
+      by (Ok u) members memories events on = collected begun linkage heard fresh x y show (record { done = done; from = from; zero = zero; on = on; members = members; memories = memories; events = events; into = into }) sound
+      by (Err e) members memories events on = tt

@@ -26,7 +26,7 @@ ok-map (Ok a) f h = f h
 ok-map (Err e) f h = tt
 
 abbrev pub tables_with : List (Option MemberSets) → List (List ℕ) → Numbered → Tables
-tables_with members segments sets = record { members = members; segments = segments; sets = sets }
+tables_with members memories sets = record { members = members; memories = memories; sets = sets }
 
 pub tables-same : (m n : List (Option MemberSets)) (s r : List (List ℕ)) (sets : Numbered) → m ≡ n → s ≡ r → tables_with m s sets ≡ tables_with n r sets
 tables-same m n s r sets e f = ap (λ l. tables_with l s sets) e ∙ ap (λ l. tables_with n l sets) f

@@ -20,7 +20,7 @@ use Rattle.taint_state.specs.Shown.{Member, Tracking}
 use Rattle.taint_state.specs.Steps.{event_by, event_of, event_step, holders_of}
 use Rattle.taint_group.specs.Does.{DoesStep}
 use Rattle.taint_group.specs.Turns.{holds_of}
-use Rattle.taint_group.proofs.Tables.{at-some, nth-map}
+use Rattle.taint_group.proofs.Keyed.{at-some, nth-map}
 
 -- a member that was holds what it held
 held-before : (x : Kept) (p : ℕ) (m : KeptMember) → nth x.members p ≡ Some m → holders_of (shown x) p ≡ Some m.holds
@@ -42,8 +42,8 @@ takes-step act pid event e before x y old process told is step =
 
     held : holders_of (shown (kept_of x)) pid ≡ Some (holds_of old)
     held =
-        held-before (kept_of x) pid (kept_member x.segments.items old)
-        (nth-map (kept_member x.segments.items) x.members.items pid ∙ ap (option_map (kept_member x.segments.items)) is)
+        held-before (kept_of x) pid (kept_member x.memories.items old)
+        (nth-map (kept_member x.memories.items) x.members.items pid ∙ ap (option_map (kept_member x.memories.items)) is)
 
     inside : event_step (holders_of (shown (kept_of x))) event e before ≡ Some (event_by_member pid before (transfer pid event (holds_of old) act) event e)
     inside =
@@ -81,7 +81,7 @@ pub takes-dead : (pid event : ℕ) (e : Record) (before : Cpu) (x : Group) → p
 takes-dead pid event e before x process dead =
     goes-not (event_step (holders_of (shown (kept_of x))) event e before) (shown (kept_of x))
     (ap (option_and_then (event_of (holders_of (shown (kept_of x))) event e before)) process
-    ∙ ap (λ h. event_by pid event e before h (act_of before e)) (holds-not (nth-map (kept_member x.segments.items) x.members.items pid ∙ ap (option_map (kept_member x.segments.items)) (by (nth x.members.items pid) dead))))
+    ∙ ap (λ h. event_by pid event e before h (act_of before e)) (holds-not (nth-map (kept_member x.memories.items) x.members.items pid ∙ ap (option_map (kept_member x.memories.items)) (by (nth x.members.items pid) dead))))
   where
     by : (o : Option MemberSets) → is_some o ≡ false → o ≡ None
     by None none = refl

@@ -2,8 +2,8 @@ pub mod Tables
 pub mod Changes
 pub mod Changing
 pub mod HeldShown
-pub mod TablesFork
-pub mod TablesForking
+pub mod Keyed
+pub mod Seating
 pub mod TablesReceive
 pub mod TablesReceiving
 pub mod Groups
@@ -11,5 +11,6 @@ pub mod Placing
 pub mod Turning
 pub mod Joining
 pub mod Sharing
+pub mod Releasing
 pub mod Happening
 mod Carrying

@@ -4,13 +4,13 @@ use Rattle.std.proofs.lemmas.List.{get_or-set_same, get_or-set_other, length-set
 use Rattle.parts_model.specs.Numbered.{nth}
 use Rattle.rv64_model.specs.declared.linkage.Linkage.{Linkage}
 use Rattle.taint_spans.specs.Numbered.{IsSet, Numbered, members_of}
-use Rattle.taint_members.specs.Access.{Segments}
+use Rattle.taint_members.specs.Access.{Memories}
 use Rattle.taint_members.specs.declared.member.MemberSets.{MemberSets}
 use Rattle.taint_state.specs.Goes.{nothing_tracked}
 use Rattle.taint_state.specs.Heard.{heard_in}
 use Rattle.taint_state.specs.Kept.{shown}
 use Rattle.taint_state.specs.declared.heard.HeardEvent.{HeardEvent}
-use Rattle.taint_group.specs.Moves.{Places, PutsSegment}
+use Rattle.taint_group.specs.Moves.{Places, PutsMemory}
 use Rattle.taint_group.specs.Tables.{AreSoundTables, kept_in}
 use Rattle.taint_group.proofs.Groups.{tables_with}
 use Rattle.taint_group.proofs.Turning.{nth-more}
@@ -43,8 +43,8 @@ last-others [] x d (suc k) h = refl
 last-others (z ∷ xs) x d zero h = refl
 last-others (z ∷ xs) x d (suc k) h = last-others xs x d k (λ e. h (ap suc e))
 
--- a segment in the place of another
-pub puts-there : (key : ℕ) (numbers put : List ℕ) (old : Segments) → put ≡ numbers → key < length old → PutsSegment key numbers old (slice_set old key put)
+-- a memory in the place of another
+pub puts-there : (key : ℕ) (numbers put : List ℕ) (old : Memories) → put ≡ numbers → key < length old → PutsMemory key numbers old (slice_set old key put)
 puts-there key numbers put old is below =
     let same = length-set old key put in
     record {
@@ -55,22 +55,22 @@ puts-there key numbers put old is below =
     }
 
 -- and one behind all others
-pub puts-last : (key : ℕ) (numbers : List ℕ) (old new : Segments) → new ≡ old ++ numbers ∷ [] → key ≡ length old → PutsSegment key numbers old new
+pub puts-last : (key : ℕ) (numbers : List ℕ) (old new : Memories) → new ≡ old ++ numbers ∷ [] → key ≡ length old → PutsMemory key numbers old new
 puts-last key numbers old new is last =
     let longer = ap length is ∙ length_push old numbers in
     record {
       there = omega (arith, longer, last);
       grown = omega (arith, longer);
-      one = ap (λ (l : Segments). slice_index_or l key []) is ∙ (ap (λ (k : ℕ). slice_index_or (old ++ numbers ∷ []) k []) last ∙ last-one old numbers []);
-      others = λ k apart. ap (λ (l : Segments). slice_index_or l k []) is ∙ last-others old numbers [] k (λ e. apart (e ∙ sym last));
+      one = ap (λ (l : Memories). slice_index_or l key []) is ∙ (ap (λ (k : ℕ). slice_index_or (old ++ numbers ∷ []) k []) last ∙ last-one old numbers []);
+      others = λ k apart. ap (λ (l : Memories). slice_index_or l k []) is ∙ last-others old numbers [] k (λ e. apart (e ∙ sym last));
     }
 
 -- a group without members and events is sound
-pub sound-nothing : (linkage : Linkage) (sets : Numbered) (members : List (Option MemberSets)) (segments : Segments) (heard : List HeardEvent)
-    → ((set : ℕ) → IsSet sets set ↔ (set ≡ 0)) → members_of sets 0 ≡ [] → members ≡ [] → heard ≡ [] → AreSoundTables linkage (heard_in heard) (tables_with members segments sets)
-sound-nothing linkage sets members segments heard alone empty no-members no-events =
-    subst (λ (m : List (Option MemberSets)). AreSoundTables linkage (heard_in heard) (tables_with m segments sets)) (sym no-members)
-    (subst (λ (h : List HeardEvent). AreSoundTables linkage (heard_in h) (tables_with [] segments sets)) (sym no-events)
+pub sound-nothing : (linkage : Linkage) (sets : Numbered) (members : List (Option MemberSets)) (memories : Memories) (heard : List HeardEvent)
+    → ((set : ℕ) → IsSet sets set ↔ (set ≡ 0)) → members_of sets 0 ≡ [] → members ≡ [] → heard ≡ [] → AreSoundTables linkage (heard_in heard) (tables_with members memories sets)
+sound-nothing linkage sets members memories heard alone empty no-members no-events =
+    subst (λ (m : List (Option MemberSets)). AreSoundTables linkage (heard_in heard) (tables_with m memories sets)) (sym no-members)
+    (subst (λ (h : List HeardEvent). AreSoundTables linkage (heard_in h) (tables_with [] memories sets)) (sym no-events)
     (record {
       kept = record {
         zero = (alone 0).1 refl;
@@ -78,12 +78,12 @@ sound-nothing linkage sets members segments heard alone empty no-members no-even
         members = λ p. tt;
         heard = λ e. tt;
       };
-      keyed = record { held = λ p. tt; once = λ p q. tt };
+      keyed = record { held = λ kind p. tt; once = λ kind other p q. tt };
     }))
 
 -- and nothing is shown of it
-pub nothing-shown : (linkage : Linkage) (sets : Numbered) (members : List (Option MemberSets)) (segments : Segments) (heard : List HeardEvent)
-    → members ≡ [] → heard ≡ [] → shown (kept_in linkage (heard_in heard) (tables_with members segments sets)) ≡ nothing_tracked linkage
-nothing-shown linkage sets members segments heard no-members no-events =
-    ap (λ (m : List (Option MemberSets)). shown (kept_in linkage (heard_in heard) (tables_with m segments sets))) no-members
-    ∙ ap (λ (h : List HeardEvent). shown (kept_in linkage (heard_in h) (tables_with [] segments sets))) no-events
+pub nothing-shown : (linkage : Linkage) (sets : Numbered) (members : List (Option MemberSets)) (memories : Memories) (heard : List HeardEvent)
+    → members ≡ [] → heard ≡ [] → shown (kept_in linkage (heard_in heard) (tables_with members memories sets)) ≡ nothing_tracked linkage
+nothing-shown linkage sets members memories heard no-members no-events =
+    ap (λ (m : List (Option MemberSets)). shown (kept_in linkage (heard_in heard) (tables_with m memories sets))) no-members
+    ∙ ap (λ (h : List HeardEvent). shown (kept_in linkage (heard_in h) (tables_with [] memories sets))) no-events

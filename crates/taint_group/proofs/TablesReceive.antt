@@ -15,12 +15,12 @@ use Rattle.taint_group.specs.Tables.{AreKeyed, kept_in}
 pub record TablesTake (pid at : ℕ) (numbers : List ℕ) (old new : MemberSets) (x y : Tables) : Type 0 where
   pub was : nth x.members pid ≡ Some old
   pub members : y.members ≡ slice_set x.members pid (Some new)
-  pub receives : Receives at numbers old new x.segments y.segments
+  pub receives : Receives at numbers old new x.memories y.memories
   pub sets : StandAsBefore x.sets y.sets
-  pub keys : length y.segments ≡ length x.segments
+  pub keys : length y.memories ≡ length x.memories
 
--- what is kept takes them by an event that is heard, and each segment is in the table once
+-- what is kept takes them by an event that is heard, and each memory is in the table once
 pub record TablesTook (linkage : Linkage) (heard after : List KeptHeard) (pid at : ℕ) (numbers : List ℕ) (old new : MemberSets) (event : KeptHeard) (x y : Tables) : Type 0 where
-  pub receives : ReceivesTo at numbers (kept_member x.segments old) (kept_member y.segments new)
-  pub becomes : BecomesShared pid (kept_member x.segments old) (kept_member y.segments new) event (kept_in linkage heard x) (kept_in linkage after y)
+  pub receives : ReceivesTo at numbers (kept_member x.memories old) (kept_member y.memories new)
+  pub becomes : BecomesShared pid (kept_member x.memories old) (kept_member y.memories new) event (kept_in linkage heard x) (kept_in linkage after y)
   pub keyed : AreKeyed y

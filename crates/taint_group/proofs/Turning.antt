@@ -1,23 +1,22 @@
 -- One member of a group changes, and an event is heard.
-use Rattle.std.proofs.Common.{◌≡◌, ◌⊎◌, inl, ℕ, zero, suc, ◌≤◌, ◌<◌, List, [], ◌∷◌, ◌++◌, length, slice_index_or, slice_set, Option, Some, None, IfSome, IsSomeAnd, Result, Ok, Err, IfOk, option_map, refl, sym, subst, ap, ◌∙◌, arith}
+use Rattle.std.proofs.Common.{◌≡◌, ℕ, zero, suc, ◌≤◌, ◌<◌, List, [], ◌∷◌, ◌++◌, length, slice_index_or, slice_set, Option, Some, None, IfSome, IsSomeAnd, Result, Ok, Err, IfOk, option_map, refl, sym, subst, ap, ◌∙◌, arith}
 use Rattle.parts_model.specs.Numbered.{nth}
 use Rattle.taint_spans.specs.Numbered.{Numbered, StandAsBefore}
 use Rattle.acts_model.specs.Moved.{Inside}
-use Rattle.taint_members.specs.Access.{held_numbers}
+use Rattle.taint_members.specs.Access.{Memories}
 use Rattle.taint_members.specs.declared.member.MemberSets.{MemberSets}
-use Rattle.taint_members.specs.declared.member.Shared.{Shared}
 use Rattle.taint_steps.specs.Table.{Tables}
 use Rattle.rv64_model.specs.declared.linkage.Linkage.{Linkage}
-use Rattle.taint_group.proofs.Changes.{HoldsSame}
+use Rattle.taint_group.proofs.Keyed.{HoldsSame}
 use Rattle.taint_group.proofs.Changing.{tables-change}
-use Rattle.taint_state.specs.Events.{Becomes, Hears, StartsTo}
+use Rattle.taint_state.specs.Events.{Becomes, Hears}
 use Rattle.taint_state.specs.EventsShow.{Follows}
 use Rattle.taint_group.specs.Groups.{ReturnsAs, ReturnsIn, ReturnsOne}
 use Rattle.taint_state.specs.Heard.{kept_child}
 use Rattle.taint_state.specs.Kept.{Kept, KeptHeard, KeptMember}
 use Rattle.taint_state.specs.RunsShow.{kept_member}
 use Rattle.taint_group.specs.Tables.{AreKeyed, AreSoundTables, kept_in}
-use Rattle.taint_group.specs.Turns.{ChangesEntry, ChangesIn, ChangesOne, Ends, FoundsFrom, LivesAs, StartsAs}
+use Rattle.taint_group.specs.Turns.{ChangesEntry, ChangesIn, ChangesOne, Ends, FoundsFrom, LivesAs}
 use Rattle.std.specs.Global.{Box}
 use Rattle.taint_state.specs.declared.heard.ChildStart.{ChildStart}
 use Rattle.taint_group.proofs.Groups.{tables_with}
@@ -88,21 +87,21 @@ pub ends-hold : (old : MemberSets) (new : Option MemberSets) → Ends old new �
 ends-hold old new e = subst (λ o. HoldsSame o (Some old)) (sym e) tt
 
 -- what is kept goes on where a member of sound tables changes
-pub changes-go : (As : MemberSets → Option MemberSets → Type 0) (inside : MemberSets → Inside) (linkage : Linkage) (pid : ℕ) (event : KeptHeard) (members after : List (Option MemberSets)) (segments : List (List ℕ)) (sets new : Numbered) (heard then : List KeptHeard)
-    → Hears event heard then → AreSoundTables linkage heard (tables_with members segments sets) → StandAsBefore sets new → ((o : MemberSets) (m : Option MemberSets) → As o m → HoldsSame m (Some o))
+pub changes-go : (As : MemberSets → Option MemberSets → Type 0) (inside : MemberSets → Inside) (linkage : Linkage) (pid : ℕ) (event : KeptHeard) (members after : List (Option MemberSets)) (memories : List (List ℕ)) (sets new : Numbered) (heard then : List KeptHeard)
+    → Hears event heard then → AreSoundTables linkage heard (tables_with members memories sets) → StandAsBefore sets new → ((o : MemberSets) (m : Option MemberSets) → As o m → HoldsSame m (Some o))
     → ((o : MemberSets) → nth members pid ≡ Some o → (m : Option MemberSets) → As o m
-    → Becomes pid (kept_member segments o) (option_map (kept_member segments) m) event (kept_in linkage heard (tables_with members segments sets)) (kept_in linkage then (tables_with after segments new))
-    → Follows (inside o) (kept_in linkage heard (tables_with members segments sets)) (kept_in linkage then (tables_with after segments new)))
+    → Becomes pid (kept_member memories o) (option_map (kept_member memories) m) event (kept_in linkage heard (tables_with members memories sets)) (kept_in linkage then (tables_with after memories new))
+    → Follows (inside o) (kept_in linkage heard (tables_with members memories sets)) (kept_in linkage then (tables_with after memories new)))
     → ChangesIn As pid members after
     → IfSome (nth members pid) (λ o.
-    Follows (inside o) (kept_in linkage heard (tables_with members segments sets)) (kept_in linkage then (tables_with after segments new)) × AreKeyed (tables_with after segments new))
-changes-go As inside linkage pid event members after segments sets new heard then hears sound stand holds show step = of (nth members pid) refl step
+    Follows (inside o) (kept_in linkage heard (tables_with members memories sets)) (kept_in linkage then (tables_with after memories new)) × AreKeyed (tables_with after memories new))
+changes-go As inside linkage pid event members after memories sets new heard then hears sound stand holds show step = of (nth members pid) refl step
   where
     x : Tables
-    x = tables_with members segments sets
+    x = tables_with members memories sets
 
     y : Tables
-    y = tables_with after segments new
+    y = tables_with after memories new
 
     of : (o : Option MemberSets) → nth members pid ≡ o → IfSome o (ChangesOne As pid members after)
         → IfSome o (λ old. Follows (inside old) (kept_in linkage heard x) (kept_in linkage then y) × AreKeyed y)
@@ -111,40 +110,54 @@ changes-go As inside linkage pid event members after segments sets new heard the
         let changed = tables-change linkage heard then pid old one.new event x y sound hears (record {
           was = is;
           members = one.members;
-          segments = refl;
+          memories = refl;
           sets = stand;
           holds = holds old one.new one.becomes;
         }) in (show old is one.new one.becomes changed.becomes, changed.keyed)
 
 -- the same where the tables stand elsewhere
-pub changes-group : (As : MemberSets → Option MemberSets → Type 0) (inside : MemberSets → Inside) (linkage : Linkage) (pid : ℕ) (event : KeptHeard) (members was now after : List (Option MemberSets)) (segments : List (List ℕ)) (sets new : Numbered) (heard then : List KeptHeard)
-    → was ≡ members → after ≡ now → Hears event heard then → AreSoundTables linkage heard (tables_with members segments sets) → StandAsBefore sets new
+pub changes-group : (As : MemberSets → Option MemberSets → Type 0) (inside : MemberSets → Inside) (linkage : Linkage) (pid : ℕ) (event : KeptHeard) (members was now after : List (Option MemberSets)) (memories : List (List ℕ)) (sets new : Numbered) (heard then : List KeptHeard)
+    → was ≡ members → after ≡ now → Hears event heard then → AreSoundTables linkage heard (tables_with members memories sets) → StandAsBefore sets new
     → ((o : MemberSets) (m : Option MemberSets) → As o m → HoldsSame m (Some o))
     → ((o : MemberSets) → nth members pid ≡ Some o → (m : Option MemberSets) → As o m
-    → Becomes pid (kept_member segments o) (option_map (kept_member segments) m) event (kept_in linkage heard (tables_with members segments sets)) (kept_in linkage then (tables_with now segments new))
-    → Follows (inside o) (kept_in linkage heard (tables_with members segments sets)) (kept_in linkage then (tables_with now segments new)))
+    → Becomes pid (kept_member memories o) (option_map (kept_member memories) m) event (kept_in linkage heard (tables_with members memories sets)) (kept_in linkage then (tables_with now memories new))
+    → Follows (inside o) (kept_in linkage heard (tables_with members memories sets)) (kept_in linkage then (tables_with now memories new)))
     → ChangesIn As pid was now
     → IfSome (nth members pid) (λ o.
-    Follows (inside o) (kept_in linkage heard (tables_with members segments sets)) (kept_in linkage then (tables_with after segments new)) × AreKeyed (tables_with after segments new))
-changes-group As inside linkage pid event members was now after segments sets new heard then same later hears sound stand holds show step =
-    subst (λ (z : List (Option MemberSets)). IfSome (nth members pid) (λ o. Follows (inside o) (kept_in linkage heard (tables_with members segments sets)) (kept_in linkage then (tables_with z segments new)) × AreKeyed (tables_with z segments new)))
+    Follows (inside o) (kept_in linkage heard (tables_with members memories sets)) (kept_in linkage then (tables_with after memories new)) × AreKeyed (tables_with after memories new))
+changes-group As inside linkage pid event members was now after memories sets new heard then same later hears sound stand holds show step =
+    subst (λ (z : List (Option MemberSets)). IfSome (nth members pid) (λ o. Follows (inside o) (kept_in linkage heard (tables_with members memories sets)) (kept_in linkage then (tables_with z memories new)) × AreKeyed (tables_with z memories new)))
     (sym later)
-    (changes-go As inside linkage pid event members now segments sets new heard then hears sound stand holds show (subst (λ z. ChangesIn As pid z now) same step))
+    (changes-go As inside linkage pid event members now memories sets new heard then hears sound stand holds show (subst (λ z. ChangesIn As pid z now) same step))
 
--- who lives on holds what it held, or nothing
-pub lives-hold : (As : MemberSets → MemberSets → Type 0) → ((o n : MemberSets) → As o n → (n.segment ≡ o.segment) ⊎ (n.segment ≡ None)) → (o : MemberSets) (m : Option MemberSets) → LivesAs As o m → HoldsSame m (Some o)
+-- and so do the memories, which stay
+pub changes-still : (As : MemberSets → Option MemberSets → Type 0) (inside : MemberSets → Inside) (linkage : Linkage) (pid : ℕ) (event : KeptHeard) (members was now after : List (Option MemberSets)) (memories kept : Memories) (sets new : Numbered) (heard then : List KeptHeard)
+    → kept ≡ memories → was ≡ members → after ≡ now → Hears event heard then → AreSoundTables linkage heard (tables_with members memories sets) → StandAsBefore sets new
+    → ((o : MemberSets) (m : Option MemberSets) → As o m → HoldsSame m (Some o))
+    → ((o : MemberSets) → nth members pid ≡ Some o → (m : Option MemberSets) → As o m
+    → Becomes pid (kept_member memories o) (option_map (kept_member memories) m) event (kept_in linkage heard (tables_with members memories sets)) (kept_in linkage then (tables_with now memories new))
+    → Follows (inside o) (kept_in linkage heard (tables_with members memories sets)) (kept_in linkage then (tables_with now memories new)))
+    → ChangesIn As pid was now
+    → IfSome (nth members pid) (λ o.
+    Follows (inside o) (kept_in linkage heard (tables_with members memories sets)) (kept_in linkage then (tables_with after kept new)) × AreKeyed (tables_with after kept new))
+changes-still As inside linkage pid event members was now after memories kept sets new heard then stays same later hears sound stand holds show step =
+    subst (λ (z : Memories). IfSome (nth members pid) (λ o. Follows (inside o) (kept_in linkage heard (tables_with members memories sets)) (kept_in linkage then (tables_with after z new)) × AreKeyed (tables_with after z new)))
+    (sym stays) (changes-group As inside linkage pid event members was now after memories sets new heard then same later hears sound stand holds show step)
+
+-- who lives on holds what it held
+pub lives-hold : (As : MemberSets → MemberSets → Type 0) → ((o n : MemberSets) → As o n → (n.window ≡ o.window) × (n.segment ≡ o.segment)) → (o : MemberSets) (m : Option MemberSets) → LivesAs As o m → HoldsSame m (Some o)
 lives-hold As same o None lives = absurd lives
 lives-hold As same o (Some n) lives = same o n lives
 
 -- who ends becomes none
-pub becomes-none : (pid : ℕ) (k : KeptMember) (segments : List (List ℕ)) (m : Option MemberSets) (event : KeptHeard) (x y : Kept) → m ≡ None → Becomes pid k (option_map (kept_member segments) m) event x y → Becomes pid k None event x y
-becomes-none pid k segments m event x y e h = subst (λ z. Becomes pid k (option_map (kept_member segments) z) event x y) e h
+pub becomes-none : (pid : ℕ) (k : KeptMember) (memories : List (List ℕ)) (m : Option MemberSets) (event : KeptHeard) (x y : Kept) → m ≡ None → Becomes pid k (option_map (kept_member memories) m) event x y → Becomes pid k None event x y
+becomes-none pid k memories m event x y e h = subst (λ z. Becomes pid k (option_map (kept_member memories) z) event x y) e h
 
 -- who lives on becomes another
-pub becomes-some : {Q : Type 0} (As : MemberSets → MemberSets → Type 0) (o : MemberSets) (m : Option MemberSets) (pid : ℕ) (k : KeptMember) (segments : List (List ℕ)) (event : KeptHeard) (x y : Kept) → LivesAs As o m
-    → Becomes pid k (option_map (kept_member segments) m) event x y → ((n : MemberSets) → As o n → Becomes pid k (Some (kept_member segments n)) event x y → Q) → Q
-becomes-some As o None pid k segments event x y lives becomes next = absurd lives
-becomes-some As o (Some n) pid k segments event x y lives becomes next = next n lives becomes
+pub becomes-some : {Q : Type 0} (As : MemberSets → MemberSets → Type 0) (o : MemberSets) (m : Option MemberSets) (pid : ℕ) (k : KeptMember) (memories : List (List ℕ)) (event : KeptHeard) (x y : Kept) → LivesAs As o m
+    → Becomes pid k (option_map (kept_member memories) m) event x y → ((n : MemberSets) → As o n → Becomes pid k (Some (kept_member memories n)) event x y → Q) → Q
+becomes-some As o None pid k memories event x y lives becomes next = absurd lives
+becomes-some As o (Some n) pid k memories event x y lives becomes next = next n lives becomes
 
 -- a fact of the member of a number, where the table stands elsewhere
 pub of-member : (P : MemberSets → Type 0) (members was : List (Option MemberSets)) (pid : ℕ) (o : MemberSets) → was ≡ members → nth members pid ≡ Some o → IfSome (nth was pid) P → P o
@@ -159,22 +172,11 @@ returns-change pid before after returns = of (nth before pid) returns
     of (Some old) one = record { new = Some one.new; becomes = one.becomes; members = one.members }
 
 pub returned-holds : (o : MemberSets) (m : Option MemberSets) → LivesAs ReturnsAs o m → HoldsSame m (Some o)
-returned-holds = lives-hold ReturnsAs (λ o n to. inl (ap (λ (m : MemberSets). m.segment) to.others))
+returned-holds = lives-hold ReturnsAs (λ o n to. (ap (λ (m : MemberSets). m.window) to.others, ap (λ (m : MemberSets). m.segment) to.others))
 
 -- the child that starts a group is there
-pub becomes-child : {Q : Type 0} (o : MemberSets) (start : Option (Box ChildStart)) (pid : ℕ) (k : KeptMember) (m : Option KeptMember) (event : ℕ) (numbers : List ℕ) (x y : Kept) → IsSomeAnd start (FoundsFrom o)
+pub becomes-child : {Q : Type 0} (memories : Memories) (o : MemberSets) (start : Option (Box ChildStart)) (pid : ℕ) (k : KeptMember) (m : Option KeptMember) (event : ℕ) (numbers : List ℕ) (x y : Kept) → IsSomeAnd start (FoundsFrom memories o)
     → Becomes pid k m (record { event = event; numbers = numbers; start = option_map kept_child start }) x y
-    → ((s : Box ChildStart) → FoundsFrom o s → Becomes pid k m (record { event = event; numbers = numbers; start = Some (kept_child s) }) x y → Q) → Q
-becomes-child o None pid k m event numbers x y founds becomes next = absurd founds
-becomes-child o (Some s) pid k m event numbers x y founds becomes next = next s founds becomes
-
--- what starts anew is kept so
-pub started-to : (segments : List (List ℕ)) (event load : ℕ) (numbers : List ℕ) (block block_len : ℕ) (old new : MemberSets) → StartsAs segments event load numbers block block_len old new
-    → StartsTo event load numbers block block_len (kept_member segments old) (kept_member segments new)
-started-to segments event load numbers block block_len old new to = record {
-  holds = ap (λ made. record { window = made; segment = option_map (λ (shared : Shared). shared.made) new.segment }) to.made ∙ ap (λ (o : Option Shared). record { window = event; segment = option_map (λ (shared : Shared). shared.made) o }) to.segment;
-  registers = to.registers;
-  slot = to.slot;
-  window = to.window;
-  segment = ap (λ (o : Option Shared). held_numbers o segments) to.segment;
-}
+    → ((s : Box ChildStart) → FoundsFrom memories o s → Becomes pid k m (record { event = event; numbers = numbers; start = Some (kept_child s) }) x y → Q) → Q
+becomes-child memories o None pid k m event numbers x y founds becomes next = absurd founds
+becomes-child memories o (Some s) pid k m event numbers x y founds becomes next = next s founds becomes

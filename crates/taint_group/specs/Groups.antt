@@ -21,7 +21,7 @@ abbrev pub heard_of : Group → List KeptHeard
 heard_of g = heard_in g.heard
 
 abbrev pub tables_of : Group → Tables
-tables_of g = record { members = g.members.items; segments = g.segments.items; sets = g.sets }
+tables_of g = record { members = g.members.items; memories = g.memories.items; sets = g.sets }
 
 -- all that is kept of it
 abbrev pub kept_of : Group → Kept
@@ -31,7 +31,7 @@ kept_of g = kept_in g.linkage (heard_of g) (tables_of g)
 abbrev pub IsSoundGroup : Group → Type 0
 IsSoundGroup g = AreSoundTables g.linkage (heard_of g) (tables_of g)
 
--- the step goes on in what is kept, and each segment is in the table once
+-- the step goes on in what is kept, and each memory is in the table once
 pub record GroupGoes (inside : Inside) (x y : Group) : Type 0 where
   pub follows : Follows inside (kept_of x) (kept_of y)
   pub keyed : AreKeyed (tables_of y)

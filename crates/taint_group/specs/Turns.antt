@@ -7,10 +7,11 @@ use Rattle.acts_model.specs.Records.{event_len}
 use Rattle.acts_model.specs.Transfers.{Holds, Transfer}
 use Rattle.taint_events.specs.Bytes.{AreGiven, IsStatus}
 use Rattle.taint_events.specs.Starting.{IsStarted}
-use Rattle.taint_members.specs.Access.{Segments, number_at}
+use Rattle.taint_members.specs.Access.{Memories, number_at, window_numbers}
 use Rattle.taint_members.specs.Rows.{AreZero, ClearsResult, IsSaved}
 use Rattle.taint_members.specs.declared.member.MemberSets.{MemberSets}
-use Rattle.taint_members.specs.declared.member.Shared.{Shared}
+use Rattle.taint_members.specs.declared.member.NewMember.{NewMember}
+use Rattle.taint_members.specs.declared.member.Held.{Held}
 use Rattle.std.specs.Global.{Box}
 use Rattle.taint_state.specs.declared.heard.ChildStart.{ChildStart}
 use Rattle.taint_group.specs.declared.group.Group.{Group}
@@ -19,7 +20,7 @@ use Rattle.taint_group.specs.Groups.{GroupGoes}
 
 -- the memories that a member holds
 abbrev pub holds_of : MemberSets → Holds
-holds_of m = record { window = m.made; segment = option_map (λ (shared : Shared). shared.made) m.segment }
+holds_of m = record { window = m.window.made; segment = option_map (λ (held : Held). held.made) m.segment }
 
 -- a step of a live member by an event of so many bytes, by the memories that it holds
 abbrev pub StepsFrom : (Holds → Transfer) → ℕ → ℕ → ℕ → Group → Group → Type 0
@@ -65,23 +66,26 @@ pub record LeavesAs (old new : MemberSets) : Type 0 where
   pub others : new ≡ record old { registers = old.slot; slot = new.slot }
 
 -- what a child has that starts a group
-pub record FoundsFrom (old : MemberSets) (start : Box ChildStart) : Type 0 where
+pub record FoundsFrom (memories : Memories) (old : MemberSets) (start : Box ChildStart) : Type 0 where
   pub result : ClearsResult old.registers start.value.registers
   pub slot : start.value.slot ≡ old.slot
-  pub window : start.value.window ≡ old.window
+  pub window : start.value.window ≡ window_numbers old memories
 
 -- that of a member that may be there
-abbrev pub StartsChild : Option MemberSets → Option (Box ChildStart) → Type 0
-StartsChild entry start = IfSome entry (λ (old : MemberSets). IsSomeAnd start (FoundsFrom old))
+abbrev pub StartsChild : Memories → Option MemberSets → Option (Box ChildStart) → Type 0
+StartsChild memories entry start = IfSome entry (λ (old : MemberSets). IsSomeAnd start (FoundsFrom memories old))
 
 -- it starts anew from an image
-pub record StartsAs (segments : Segments) (event load : ℕ) (numbers : List ℕ) (block block_len : ℕ) (old new : MemberSets) : Type 0 where
-  pub made : new.made ≡ event
+pub record StartsAs (memories : Memories) (load : ℕ) (numbers : List ℕ) (block block_len : ℕ) (old : MemberSets) (new : NewMember) : Type 0 where
   pub registers : AreZero new.registers
   pub slot : AreZero new.slot
-  pub window : IsStarted load numbers (number_at old segments block) block_len new.window
+  pub window : IsStarted load numbers (number_at old memories block) block_len new.window
   pub segment : new.segment ≡ None
 
+-- so does one that may be there
+abbrev pub StartsEntry : Memories → ℕ → List ℕ → ℕ → ℕ → Option MemberSets → Option NewMember → Type 0
+StartsEntry memories load numbers block block_len entry new = IfSome entry (λ (old : MemberSets). IsSomeAnd new (StartsAs memories load numbers block block_len old))
+
 -- the bytes given by a member that may be there
-abbrev pub HasGiven : Option MemberSets → Segments → ℕ → ℕ → List ℕ → Type 0
-HasGiven entry segments at count numbers = IfSome entry (λ (m : MemberSets). AreGiven (number_at m segments at) count numbers)
+abbrev pub HasGiven : Option MemberSets → Memories → ℕ → ℕ → List ℕ → Type 0
+HasGiven entry memories at count numbers = IfSome entry (λ (m : MemberSets). AreGiven (number_at m memories at) count numbers)

@@ -5,7 +5,7 @@ ghost use Rattle.taint_group.specs.Groups.{IsSoundGroup, kept_of};
 ghost use Rattle.taint_state.specs.Kept.{shown};
 
 use crate::group::Group;
-use crate::places::place;
+use crate::memories::seat;
 use arn_base::NoMemory;
 use taint_events::begun;
 use taint_state::begins_show;
@@ -21,6 +21,6 @@ impl Group {
     {
         begins_show();
         let member = begun(*self.members.allocator(), &mut self.sets, event)?;
-        place(&mut self.members, pid, member)
+        seat(&mut self.members, &mut self.memories, pid, event, member)
     }
 }

@@ -3,7 +3,7 @@ ghost use Rattle.std.specs.Prelude.{◌≡◌, ℕ, OnOk};
 ghost use Rattle.parts_model.specs.Numbered.{nth};
 ghost use Rattle.taint_members.specs.Carried.{CarriesMember};
 ghost use Rattle.taint_spans.specs.Carried.{CarriesOn};
-ghost use Rattle.taint_group.specs.Carried.{CarriesSegments};
+ghost use Rattle.taint_group.specs.Carried.{CarriesMemories};
 ghost use Rattle.taint_group.specs.Groups.{IsSoundGroup, kept_of};
 ghost use Rattle.taint_state.specs.Carried.{CarriesEvents, IfBoth};
 ghost use Rattle.taint_state.specs.Heard.{heard_in};
@@ -44,14 +44,14 @@ fn carry_members(
     Ok(())
 }
 
-/// The same of each segment.
-fn carry_segments(carrying: &mut Carrying, segments: &mut Vec<SetNumbers>) -> Result<(), NoMemory>
+/// The same of each memory.
+fn carry_memories(carrying: &mut Carrying, memories: &mut Vec<SetNumbers>) -> Result<(), NoMemory>
     ensures carried { OnOk result
-        (CarriesSegments carrying.new segments.old.items segments.new.items) }
+        (CarriesMemories carrying.new memories.old.items memories.new.items) }
     ensures on { CarriesOn carrying.old carrying.new }
 {
-    for key in 0..segments.len() {
-        segments[key].carry(carrying)?;
+    for key in 0..memories.len() {
+        memories[key].carry(carrying)?;
     }
     Ok(())
 }
@@ -60,19 +60,19 @@ fn carry_segments(carrying: &mut Carrying, segments: &mut Vec<SetNumbers>) -> Re
 fn carry_all(
     carrying: &mut Carrying,
     members: &mut Vec<Option<MemberSets>>,
-    segments: &mut Vec<SetNumbers>,
+    memories: &mut Vec<SetNumbers>,
     heard: &mut HeardEvents,
 ) -> Result<(), NoMemory>
     ensures members { OnOk result ((p : ℕ) →
         IfBoth (CarriesMember carrying.new) (nth members.old.items p) (nth members.new.items p)) }
-    ensures segments { OnOk result
-        (CarriesSegments carrying.new segments.old.items segments.new.items) }
+    ensures memories { OnOk result
+        (CarriesMemories carrying.new memories.old.items memories.new.items) }
     ensures events { OnOk result
         (CarriesEvents carrying.new (heard_in heard.old) (heard_in heard.new)) }
     ensures on { OnOk result (CarriesOn carrying.old carrying.new) }
 {
     carry_members(carrying, members)?;
-    carry_segments(carrying, segments)?;
+    carry_memories(carrying, memories)?;
     heard.carry(carrying)
 }
 
@@ -94,7 +94,7 @@ impl Group {
         let all = carry_all(
             &mut carrying,
             &mut self.members,
-            &mut self.segments,
+            &mut self.memories,
             &mut self.heard,
         );
         put(&mut self.sets, carrying.done());

@@ -1,56 +1,52 @@
 // A child that joins the group.
-ghost use Rattle.std.specs.Prelude.{◌≡◌, IfOk, OnOk};
+ghost use Rattle.std.specs.Prelude.{◌≡◌, None, IfOk, IfSome, OnOk};
 ghost use Rattle.acts_model.specs.Transfers.{Forks, Holds};
 ghost use Rattle.parts_model.specs.Numbered.{nth};
+ghost use Rattle.taint_members.specs.Access.{HoldsKeys};
+ghost use Rattle.taint_members.specs.declared.member.MemberSets.{MemberSets};
 ghost use Rattle.taint_group.specs.Groups.{IsSoundGroup};
-ghost use Rattle.taint_group.specs.Moves.{HasChild, MayPlace};
+ghost use Rattle.taint_group.specs.Moves.{HasChild};
 ghost use Rattle.taint_group.specs.Turns.{StepsFrom};
 
 use crate::group::{Group, hear_empty, return_member};
-use crate::places::place;
+use crate::memories::may_seat;
 use arn_base::NoMemory;
-use taint_members::MemberSets;
+use taint_members::{MemberSets, NewMember};
+use taint_pages::SetNumbers;
 use taint_state::forks_show;
 
 /// The child of a member that may be there.
-fn entry_child(entry: &mut Option<MemberSets>, event: u64) -> Result<Option<MemberSets>, NoMemory>
-    ensures child { IfOk result (HasChild event entry.old) }
-    ensures same { entry.new ≡ entry.old }
+fn entry_child(
+    entry: &Option<MemberSets>,
+    memories: &mut [SetNumbers],
+) -> Result<Option<NewMember>, NoMemory>
+    requires held { IfSome entry.now (λ (m : MemberSets). HoldsKeys m memories.old) }
+    ensures child { IfOk result (HasChild memories.old entry.now) }
+    ensures none { IfOk result (λ child. entry.now ≡ None → child ≡ None) }
+    ensures same { memories.new ≡ memories.old }
 {
     match entry {
-        Some(member) => Ok(Some(member.child(event)?)),
+        Some(member) => Ok(Some(member.child(memories)?)),
         None => Ok(None),
     }
 }
 
 /// The child of the member of a number, if there is one.
-fn child_of(
-    members: &mut [Option<MemberSets>],
+pub fn child_of(
+    members: &[Option<MemberSets>],
+    memories: &mut [SetNumbers],
     pid: u32,
-    event: u64,
-) -> Result<Option<MemberSets>, NoMemory>
-    ensures child { IfOk result (HasChild event (nth members.old pid)) }
-    ensures same { members.new ≡ members.old }
+) -> Result<Option<NewMember>, NoMemory>
+    requires held { IfSome (nth members.now pid) (λ (m : MemberSets). HoldsKeys m memories.old) }
+    ensures child { IfOk result (HasChild memories.old (nth members.now pid)) }
+    ensures none { IfOk result (λ child. nth members.now pid ≡ None → child ≡ None) }
+    ensures same { memories.new ≡ memories.old }
 {
     let place = pid as usize;
     if place < members.len() {
-        entry_child(&mut members[place], event)
+        entry_child(&members[place], memories)
     } else {
         Ok(None)
-    }
-}
-
-/// A member that may begin does so at a number.
-fn may_place(
-    members: &mut Vec<Option<MemberSets>>,
-    pid: u32,
-    member: Option<MemberSets>,
-) -> Result<(), NoMemory>
-    ensures { OnOk result (MayPlace pid member members.old.items members.new.items) }
-{
-    match member {
-        Some(member) => place(members, pid, member),
-        None => Ok(()),
     }
 }
 
@@ -64,9 +60,9 @@ impl Group {
     {
         forks_show();
         let alloc = *self.members.allocator();
-        let kid = child_of(self.members.as_mut_slice(), pid, event)?;
+        let kid = child_of(self.members.as_slice(), self.memories.as_mut_slice(), pid)?;
         return_member(self.members.as_mut_slice(), pid);
-        may_place(&mut self.members, child, kid)?;
+        may_seat(&mut self.members, &mut self.memories, child, event, kid)?;
         hear_empty(alloc, &mut self.heard, event, len)
     }
 }

@@ -1,19 +1,23 @@
 // Forks that start a group.
-ghost use Rattle.std.specs.Prelude.{◌≡◌, ℕ, IfOk, OnOk};
+ghost use Rattle.std.specs.Prelude.{◌≡◌, ℕ, IfOk, IfSome, OnOk};
 ghost use Rattle.acts_model.specs.Transfers.{Founds, Holds};
 ghost use Rattle.parts_model.specs.Numbered.{nth};
+ghost use Rattle.taint_members.specs.Access.{HoldsKeys};
+ghost use Rattle.taint_members.specs.declared.member.MemberSets.{MemberSets};
 ghost use Rattle.taint_group.specs.Groups.{IsSoundGroup};
 ghost use Rattle.taint_group.specs.Turns.{StartsChild, StepsFrom};
 
+use crate::forks::child_of;
 use crate::group::{Group, return_member};
 use arn_base::NoMemory;
 use std::alloc::Global;
 use taint_events::empty;
-use taint_members::MemberSets;
+use taint_members::{MemberSets, NewMember};
+use taint_pages::SetNumbers;
 use taint_state::{ChildStart, founds_show};
 
 /// What a child began with.
-fn start_of(child: MemberSets) -> ChildStart
+fn start_of(child: NewMember) -> ChildStart
     ensures registers { result.registers ≡ child.registers }
     ensures slot { result.slot ≡ child.slot }
     ensures window { result.window ≡ child.window }
@@ -25,36 +29,20 @@ fn start_of(child: MemberSets) -> ChildStart
     }
 }
 
-/// What the child of a member that may be there begins with.
-fn entry_start(
-    alloc: Global,
-    entry: &mut Option<MemberSets>,
-    event: u64,
-) -> Result<Option<Box<ChildStart>>, NoMemory>
-    ensures start { IfOk result (λ start. StartsChild entry.old start) }
-    ensures same { entry.new ≡ entry.old }
-{
-    match entry {
-        Some(member) => Ok(Some(Box::new(alloc, start_of(member.child(event)?))?)),
-        None => Ok(None),
-    }
-}
-
 /// What the child of the member of a number begins with, if there is one.
 fn child_start(
     alloc: Global,
-    members: &mut [Option<MemberSets>],
+    members: &[Option<MemberSets>],
+    memories: &mut [SetNumbers],
     pid: u32,
-    event: u64,
 ) -> Result<Option<Box<ChildStart>>, NoMemory>
-    ensures start { IfOk result (λ start. StartsChild (nth members.old pid) start) }
-    ensures same { members.new ≡ members.old }
+    requires held { IfSome (nth members.now pid) (λ (m : MemberSets). HoldsKeys m memories.old) }
+    ensures start { IfOk result (StartsChild memories.old (nth members.now pid)) }
+    ensures same { memories.new ≡ memories.old }
 {
-    let place = pid as usize;
-    if place < members.len() {
-        entry_start(alloc, &mut members[place], event)
-    } else {
-        Ok(None)
+    match child_of(members, memories, pid)? {
+        Some(child) => Ok(Some(Box::new(alloc, start_of(child))?)),
+        None => Ok(None),
     }
 }
 
@@ -70,7 +58,12 @@ impl Group {
         founds_show();
         let alloc = *self.members.allocator();
         let numbers = empty(alloc, len)?;
-        let start = child_start(alloc, self.members.as_mut_slice(), pid, event)?;
+        let start = child_start(
+            alloc,
+            self.members.as_slice(),
+            self.memories.as_mut_slice(),
+            pid,
+        )?;
         return_member(self.members.as_mut_slice(), pid);
         self.heard.hear_child(event, numbers, start)
     }

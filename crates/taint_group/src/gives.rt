@@ -2,7 +2,7 @@
 ghost use Rattle.std.specs.Prelude.{IfOk, IfSome, OnOk};
 ghost use Rattle.acts_model.specs.Transfers.{Gives, Holds, place_of};
 ghost use Rattle.parts_model.specs.Numbered.{nth};
-ghost use Rattle.taint_members.specs.Access.{HoldsKey};
+ghost use Rattle.taint_members.specs.Access.{HoldsKeys};
 ghost use Rattle.taint_group.specs.Groups.{IsSoundGroup};
 ghost use Rattle.taint_group.specs.Turns.{HasGiven, StepsFrom};
 
@@ -18,15 +18,15 @@ use taint_state::gives_show;
 fn entry_given(
     alloc: Global,
     entry: &Option<MemberSets>,
-    segments: &[SetNumbers],
+    memories: &[SetNumbers],
     at: u64,
     len: usize,
 ) -> Result<Vec<u32>, NoMemory>
-    requires held { IfSome entry.now (λ member. HoldsKey member.segment segments.now) }
-    ensures { IfOk result (λ numbers. HasGiven entry.now segments.now at len numbers.items) }
+    requires held { IfSome entry.now (λ member. HoldsKeys member memories.now) }
+    ensures { IfOk result (λ numbers. HasGiven entry.now memories.now at len numbers.items) }
 {
     match entry {
-        Some(member) => given(alloc, member, segments, at, len),
+        Some(member) => given(alloc, member, memories, at, len),
         None => empty(alloc, len),
     }
 }
@@ -36,17 +36,17 @@ fn given_numbers(
     alloc: Global,
     members: &[Option<MemberSets>],
     pid: u32,
-    segments: &[SetNumbers],
+    memories: &[SetNumbers],
     at: u64,
     len: usize,
 ) -> Result<Vec<u32>, NoMemory>
-    requires held { IfSome (nth members.now pid) (λ member. HoldsKey member.segment segments.now) }
+    requires held { IfSome (nth members.now pid) (λ member. HoldsKeys member memories.now) }
     ensures { IfOk result (λ numbers.
-        HasGiven (nth members.now pid) segments.now at len numbers.items) }
+        HasGiven (nth members.now pid) memories.now at len numbers.items) }
 {
     let place = pid as usize;
     if place < members.len() {
-        entry_given(alloc, &members[place], segments, at, len)
+        entry_given(alloc, &members[place], memories, at, len)
     } else {
         empty(alloc, len)
     }
@@ -66,7 +66,7 @@ impl Group {
             *self.members.allocator(),
             self.members.as_slice(),
             pid,
-            self.segments.as_slice(),
+            self.memories.as_slice(),
             at,
             len,
         )?;

@@ -22,14 +22,14 @@ use taint_steps::run_member;
 /// How many unions are remembered at most.
 pub(crate) const MEMO: u32 = 65_536;
 
-/// What is kept of a group: of its members by number, of segments by key, and of its events in
+/// What is kept of a group: of its members by number, of memories by key, and of its events in
 /// order.
 #[derive(Drop)]
 pub struct Group {
     pub linkage: Linkage,
     pub sets: SpanSets,
     pub members: Vec<Option<MemberSets>>,
-    pub segments: Vec<SetNumbers>,
+    pub memories: Vec<SetNumbers>,
     pub heard: HeardEvents,
 }
 
@@ -77,7 +77,7 @@ impl Group {
             linkage,
             sets: SpanSets::new(alloc, MEMO)?,
             members: Vec::new(alloc),
-            segments: Vec::new(alloc),
+            memories: Vec::new(alloc),
             heard: HeardEvents::new(alloc),
         })
     }
@@ -114,7 +114,7 @@ impl Group {
             before,
             pid,
             self.members.as_mut_slice(),
-            self.segments.as_mut_slice(),
+            self.memories.as_mut_slice(),
         )
     }
 

@@ -10,8 +10,10 @@ ghost use Rattle.taint_state.specs.Kept.{shown};
 ghost use Rattle.taint_state.specs.Lens.{HasLen};
 
 use crate::group::Group;
+use crate::memories::release;
 use acts_model::{Deed, deed_of, event_len, process_of};
 use arn_base::{Cpu, NoMemory, Record};
+use parts_model::calls::{EXEC, EXIT, SHM};
 use taint_state::{Layout, acts_have_len};
 
 /// The number of a process. 2^32 or more count as want of memory.
@@ -22,6 +24,16 @@ fn narrow_pid(number: u64) -> Result<u32, NoMemory>
         Ok(number as u32)
     } else {
         Err(NoMemory)
+    }
+}
+
+/// Whether a process may let go of a memory at an event: where it ends, starts anew or gets a segment.
+fn may_let_go(entry: &Record) -> bool {
+    match entry {
+        Record::Call { number, .. } => matches!(*number, EXIT | EXEC | SHM),
+        Record::Signal { handler, .. } => *handler == 0,
+        Record::End { .. } => true,
+        _ => false,
     }
 }
 
@@ -80,7 +92,22 @@ impl Group {
         ensures sound { OnOk result (IsSoundGroup self.new) }
     {
         self.tidy()?;
-        self.hears(event, entry, before)
+        self.hears(event, entry, before)?;
+        self.release(entry)
+    }
+
+    /// Lets go of the memories that no member holds, if the event may have left one so. After an
+    /// error nothing is known of what is kept.
+    fn release(&mut self, entry: &Record) -> Result<(), NoMemory>
+        requires sound { IsSoundGroup self.old }
+        ensures same { OnOk result (shown (kept_of self.new) ≡ shown (kept_of self.old)) }
+        ensures sound { OnOk result (IsSoundGroup self.new) }
+    {
+        if !may_let_go(entry) {
+            return Ok(());
+        }
+        let alloc = *self.members.allocator();
+        release(alloc, self.members.as_slice(), &mut self.memories)
     }
 
     /// The same, with the sets that there are.

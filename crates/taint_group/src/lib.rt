@@ -1,4 +1,4 @@
-//! Follows each step of a group's members in tables: of members by number, of segments by key, and
+//! Follows each step of a group's members in tables: of members by number, of memories by key, and
 //! of events.
 #![tactic(auto)]
 
@@ -10,6 +10,7 @@ mod founds;
 mod gives;
 mod group;
 mod happens;
+mod memories;
 mod places;
 mod receives;
 mod shares;
@@ -17,3 +18,4 @@ mod starts;
 mod turns;
 
 pub use group::Group;
+pub use memories::Kind;

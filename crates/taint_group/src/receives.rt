@@ -2,7 +2,7 @@
 ghost use Rattle.std.specs.Prelude.{◌≡◌, length, IfSome, OnOk};
 ghost use Rattle.acts_model.specs.Transfers.{Holds, Receives, place_of};
 ghost use Rattle.parts_model.specs.Numbered.{nth};
-ghost use Rattle.taint_members.specs.Access.{HoldsKey};
+ghost use Rattle.taint_members.specs.Access.{HoldsKeys};
 ghost use Rattle.taint_group.specs.Groups.{IsSoundGroup};
 ghost use Rattle.taint_group.specs.Moves.{ReceivesEntry, ReceivesIn};
 ghost use Rattle.taint_group.specs.Turns.{StepsFrom};
@@ -17,17 +17,17 @@ use taint_state::receives_show;
 /// Bytes of these sets come to a member that may be there.
 fn receive_entry(
     entry: &mut Option<MemberSets>,
-    segments: &mut [SetNumbers],
+    memories: &mut [SetNumbers],
     at: u64,
     numbers: &[u32],
 ) -> Result<(), NoMemory>
-    requires held { IfSome entry.old (λ member. HoldsKey member.segment segments.old) }
+    requires held { IfSome entry.old (λ member. HoldsKeys member memories.old) }
     ensures receives { OnOk result
-        (ReceivesEntry at numbers.now entry.old entry.new segments.old segments.new) }
-    ensures keys { length segments.new ≡ length segments.old }
+        (ReceivesEntry at numbers.now entry.old entry.new memories.old memories.new) }
+    ensures keys { length memories.new ≡ length memories.old }
 {
     match entry {
-        Some(member) => receives(member, segments, at, numbers),
+        Some(member) => receives(member, memories, at, numbers),
         None => Ok(()),
     }
 }
@@ -35,20 +35,20 @@ fn receive_entry(
 /// Bytes of these sets come to the member of a number, if there is one.
 fn receive_member(
     members: &mut [Option<MemberSets>],
-    segments: &mut [SetNumbers],
+    memories: &mut [SetNumbers],
     pid: u32,
     at: u64,
     numbers: &[u32],
 ) -> Result<(), NoMemory>
-    requires held { IfSome (nth members.old pid) (λ member. HoldsKey member.segment segments.old) }
+    requires held { IfSome (nth members.old pid) (λ member. HoldsKeys member memories.old) }
     ensures receives { OnOk result (ReceivesIn pid at numbers.now members.old members.new
-        segments.old segments.new) }
+        memories.old memories.new) }
     ensures count { length members.new ≡ length members.old }
-    ensures keys { length segments.new ≡ length segments.old }
+    ensures keys { length memories.new ≡ length memories.old }
 {
     let place = pid as usize;
     if place < members.len() {
-        receive_entry(&mut members[place], segments, at, numbers)
+        receive_entry(&mut members[place], memories, at, numbers)
     } else {
         Ok(())
     }
@@ -67,7 +67,7 @@ impl Group {
         let numbers = received(*self.members.allocator(), &mut self.sets, event, len)?;
         receive_member(
             self.members.as_mut_slice(),
-            self.segments.as_mut_slice(),
+            self.memories.as_mut_slice(),
             pid,
             at,
             &numbers,

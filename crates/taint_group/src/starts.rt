@@ -1,75 +1,66 @@
 // Members that start from an image.
-ghost use Rattle.std.specs.Prelude.{◌≡◌, length, IfSome, OnOk};
+ghost use Rattle.std.specs.Prelude.{IfOk, IfSome, OnOk};
 ghost use Rattle.acts_model.specs.Transfers.{Holds, Starts, place_of};
 ghost use Rattle.parts_model.specs.Numbered.{nth};
-ghost use Rattle.taint_members.specs.Access.{HoldsKey};
+ghost use Rattle.taint_members.specs.Access.{HoldsKeys};
 ghost use Rattle.taint_members.specs.declared.member.MemberSets.{MemberSets};
 ghost use Rattle.taint_group.specs.Groups.{IsSoundGroup};
-ghost use Rattle.taint_group.specs.Turns.{ChangesEntry, ChangesIn, LivesAs, StartsAs, StepsFrom};
+ghost use Rattle.taint_group.specs.Turns.{StartsEntry, StepsFrom};
 
 use crate::group::Group;
-use crate::places::put;
+use crate::memories::may_seat;
 use arn_base::NoMemory;
 use std::alloc::Global;
 use taint_events::{received, started};
-use taint_members::MemberSets;
+use taint_members::{MemberSets, NewMember};
 use taint_pages::SetNumbers;
 use taint_state::{Layout, starts_show};
 
-/// A member that may be there starts from an image.
+/// What a member that may be there is, started from an image.
 fn start_entry(
     alloc: Global,
-    entry: &mut Option<MemberSets>,
-    segments: &[SetNumbers],
-    event: u64,
+    entry: &Option<MemberSets>,
+    memories: &[SetNumbers],
     numbers: &[u32],
     layout: Layout,
-) -> Result<(), NoMemory>
-    requires held { IfSome entry.old (λ (old : MemberSets). HoldsKey old.segment segments.now) }
-    ensures { OnOk result (ChangesEntry
-        (LivesAs (StartsAs segments.now event layout.load
-        numbers.now layout.block layout.block_len))
-        entry.old entry.new) }
+) -> Result<Option<NewMember>, NoMemory>
+    requires held { IfSome entry.now (λ (old : MemberSets). HoldsKeys old memories.now) }
+    ensures { IfOk result (StartsEntry memories.now layout.load
+        numbers.now layout.block layout.block_len entry.now) }
 {
-    if let Some(member) = entry {
-        let fresh = started(
+    match entry {
+        Some(member) => Ok(Some(started(
             alloc,
-            event,
             member,
-            segments,
+            memories,
             layout.load,
             numbers,
             layout.block,
             layout.block_len,
-        )?;
-        put(member, fresh);
+        )?)),
+        None => Ok(None),
     }
-    Ok(())
 }
 
-/// The member of a number starts from an image, if there is one.
+/// What the member of a number is, started from an image, if there is one.
 fn start_member(
     alloc: Global,
-    members: &mut [Option<MemberSets>],
-    segments: &[SetNumbers],
+    members: &[Option<MemberSets>],
+    memories: &[SetNumbers],
     pid: u32,
-    event: u64,
     numbers: &[u32],
     layout: Layout,
-) -> Result<(), NoMemory>
-    requires held { IfSome (nth members.old pid)
-        (λ (old : MemberSets). HoldsKey old.segment segments.now) }
-    ensures starts { OnOk result (ChangesIn
-        (LivesAs (StartsAs segments.now event layout.load
-        numbers.now layout.block layout.block_len))
-        pid members.old members.new) }
-    ensures count { length members.new ≡ length members.old }
+) -> Result<Option<NewMember>, NoMemory>
+    requires held { IfSome (nth members.now pid)
+        (λ (old : MemberSets). HoldsKeys old memories.now) }
+    ensures { IfOk result (StartsEntry memories.now layout.load
+        numbers.now layout.block layout.block_len (nth members.now pid)) }
 {
     let place = pid as usize;
     if place < members.len() {
-        start_entry(alloc, &mut members[place], segments, event, numbers, layout)
+        start_entry(alloc, &members[place], memories, numbers, layout)
     } else {
-        Ok(())
+        Ok(None)
     }
 }
 
@@ -92,15 +83,15 @@ impl Group {
         starts_show();
         let alloc = *self.members.allocator();
         let numbers = received(alloc, &mut self.sets, event, len)?;
-        start_member(
+        let fresh = start_member(
             alloc,
-            self.members.as_mut_slice(),
-            self.segments.as_slice(),
+            self.members.as_slice(),
+            self.memories.as_slice(),
             pid,
-            event,
             numbers.as_slice(),
             layout,
         )?;
+        may_seat(&mut self.members, &mut self.memories, pid, event, fresh)?;
         self.heard.hear(event, numbers)
     }
 }

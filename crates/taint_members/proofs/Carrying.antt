@@ -11,14 +11,13 @@ have-still a b was is on h = record { len = h.len; each = λ k below. on.still _
 pub on-twice : (a b c : Carried) → CarriesOn a b → CarriesOn b c → CarriesOn a c
 on-twice a b c f g = record { from = g.from ∙ f.from; still = λ was is h. g.still was is (f.still was is h) }
 
--- registers, slot and window one after the other
-pub member-carried : {X Y : Type 0} (r : Result X Y) (first second third : Carried) (m : MemberSets) (registers slot window : List ℕ) → HaveNumbers first m.registers registers → HaveNumbers second m.slot slot
-    → CarriesOn first second → CarriesOn second third → OnOk r (HaveNumbers third m.window window) → OnOk r (CarriesMember third m (record m { registers = registers; slot = slot; window = window }))
-member-carried (Ok x) first second third m registers slot window one two on more three = record {
-  registers = have-still first third m.registers registers (on-twice first second third on more) one;
-  slot = have-still second third m.slot slot more two;
-  window = three;
-  made = refl;
+-- registers and slot one after the other
+pub member-carried : {X Y : Type 0} (r : Result X Y) (first second : Carried) (m : MemberSets) (registers slot : List ℕ) → HaveNumbers first m.registers registers
+    → CarriesOn first second → OnOk r (HaveNumbers second m.slot slot) → OnOk r (CarriesMember second m (record m { registers = registers; slot = slot }))
+member-carried (Ok x) first second m registers slot one on two = record {
+  registers = have-still first second m.registers registers on one;
+  slot = two;
+  window = refl;
   segment = refl;
 }
-member-carried (Err e) first second third m registers slot window one two on more three = tt
+member-carried (Err e) first second m registers slot one on two = tt

@@ -1,2 +1,1 @@
 mod Carrying
-mod Writes

@@ -5,5 +5,5 @@
 mod access;
 mod member;
 
-pub use access::{load_register, number, read, write, write_held};
-pub use member::{MemberSets, Shared};
+pub use access::{KeyOffset, load_register, number, read, write};
+pub use member::{Held, MemberSets, NewMember, clear_result};

@@ -2,6 +2,7 @@
 ghost use Rattle.std.specs.Prelude.{◌≡◌, ◌*◌, Bool, None, Some, IfOk, OnOk};
 ghost use Rattle.taint_pages.specs.declared.page.Unset.TheVariants.{Zero};
 ghost use Rattle.taint_pages.specs.Pages.{AreUnset, page_len};
+ghost use Rattle.taint_members.specs.Access.{HoldsKeys, window_numbers};
 ghost use Rattle.taint_members.specs.Carried.{CarriesMember};
 ghost use Rattle.taint_spans.specs.Carried.{CarriesOn};
 ghost use Rattle.taint_members.specs.Rows.{AreZero, ClearsResult, IsSaved, window_pages};
@@ -16,26 +17,35 @@ use taint_spans::Carrying;
 /// How many pages a private window has.
 pub const WINDOW_PAGES: usize = 64;
 
-/// A segment that a member holds: the event that made it, and its key in the table.
+/// A memory that a member holds, its window or its segment: the event that made it, and its key in
+/// the table. Several members may hold one.
 #[derive(Clone, Copy)]
-pub struct Shared {
+pub struct Held {
     pub made: u64,
     pub key: usize,
 }
 
-/// The numbers of the sets of a member's bytes: of its registers, of what its slot keeps of them, and of its private
-/// window, with the event that made it; and the segment that it holds.
+/// The numbers of the sets of a member's bytes: of its registers, and of what its slot keeps of
+/// them; and the memories that it holds.
 #[derive(Drop)]
 pub struct MemberSets {
     pub registers: Row,
     pub slot: Row,
+    pub window: Held,
+    pub segment: Option<Held>,
+}
+
+/// A member that isn't in the table yet: its window has no key, and none but it has the window.
+#[derive(Drop)]
+pub struct NewMember {
+    pub registers: Row,
+    pub slot: Row,
     pub window: SetNumbers,
-    pub made: u64,
-    pub segment: Option<Shared>,
+    pub segment: Option<Held>,
 }
 
 /// The result of a call takes nothing.
-fn clear_result(registers: &mut Row)
+pub fn clear_result(registers: &mut Row)
     ensures { ClearsResult registers.old registers.new }
 {
     if let Some(result) = Reg::new(10) {
@@ -89,63 +99,62 @@ impl MemberSets {
     }
 
     /// The child of a fork: its registers, but the result, its slot and its window have what its parent's have. The
-    /// event makes its window. The parent stays as it is. Both share the pages of their windows until they are written.
-    pub fn child(&mut self, event: u64) -> Result<MemberSets, NoMemory>
-        ensures result { IfOk result (λ child. ClearsResult self.old.registers child.registers) }
-        ensures others { IfOk result (λ child. child ≡ record self.old {
-          registers = child.registers;
-          made = event;
-        }) }
-        ensures parent { self.new ≡ self.old }
+    /// parent stays as it is. Both share the pages of their windows until they are written.
+    pub fn child(&self, memories: &mut [SetNumbers]) -> Result<NewMember, NoMemory>
+        requires held { HoldsKeys self.now memories.old }
+        ensures result { IfOk result (λ child. ClearsResult self.now.registers child.registers) }
+        ensures slot { IfOk result (λ child. child.slot ≡ self.now.slot) }
+        ensures window { IfOk result (λ child. child.window ≡ window_numbers self.now memories.old) }
+        ensures segment { IfOk result (λ child. child.segment ≡ self.now.segment) }
+        ensures memories { memories.new ≡ memories.old }
     {
-        self.window.share()?;
+        let window = &mut memories[self.window.key];
+        window.share()?;
         let mut registers = self.registers.copy()?;
         clear_result(&mut registers);
-        Ok(MemberSets {
+        Ok(NewMember {
             registers,
             slot: self.slot.copy()?,
-            window: self.window.copy()?,
-            made: event,
+            window: window.copy()?,
             segment: self.segment,
         })
     }
 
-    /// A process whose window an event makes, and none of whose bytes has a set.
-    pub fn fresh(alloc: Global, event: u64) -> Result<MemberSets, NoMemory>
-        ensures registers { IfOk result (λ member. AreZero member.registers) }
-        ensures slot { IfOk result (λ member. AreZero member.slot) }
-        ensures window { IfOk result (λ member. AreUnset Zero (page_len * window_pages) member.window) }
-        ensures made { IfOk result (λ member. member.made ≡ event) }
-        ensures segment { IfOk result (λ member. member.segment ≡ None) }
-    {
-        Ok(MemberSets {
-            registers: Row::new(alloc)?,
-            slot: Row::new(alloc)?,
-            window: empty_window(alloc)?,
-            made: event,
-            segment: None,
-        })
-    }
-
-    /// Gives each byte the number that its set has from now on.
+    /// Gives each byte of the registers and the slot the number that its set has from now on.
     pub fn carry(&mut self, carrying: &mut Carrying) -> Result<(), NoMemory>
         ensures carried { OnOk result (CarriesMember carrying.new self.old self.new) }
         ensures on { CarriesOn carrying.old carrying.new }
     {
         self.registers.carry(carrying)?;
-        self.slot.carry(carrying)?;
-        self.window.carry(carrying)
+        self.slot.carry(carrying)
     }
 
     /// The member gets a fresh segment, in the place of one that it may hold.
-    pub fn shares(&mut self, shared: Shared)
+    pub fn shares(&mut self, held: Held)
         ensures result { ClearsResult self.old.registers self.new.registers }
         ensures others { self.new ≡ record self.old {
           registers = self.new.registers;
-          segment = Some shared;
+          segment = Some held;
         } }
     {
-        self.segment = Some(shared);
+        self.segment = Some(held);
         self.returns();
+    }
+}
+
+impl NewMember {
+    /// A process none of whose bytes has a set.
+    pub fn fresh(alloc: Global) -> Result<NewMember, NoMemory>
+        ensures registers { IfOk result (λ member. AreZero member.registers) }
+        ensures slot { IfOk result (λ member. AreZero member.slot) }
+        ensures window { IfOk result (λ member. AreUnset Zero (page_len * window_pages) member.window) }
+        ensures segment { IfOk result (λ member. member.segment ≡ None) }
+    {
+        Ok(NewMember {
+            registers: Row::new(alloc)?,
+            slot: Row::new(alloc)?,
+            window: empty_window(alloc)?,
+            segment: None,
+        })
     }
 }

@@ -1,27 +1,27 @@
 -- A member that begins without a parent.
-use Rattle.std.proofs.Common.{◌≡◌, ◌⊎◌, inl, inr, ℕ, ◌+◌, ◌-◌, ◌*◌, ◌<◌, ◌≤◌, ◌==◌, cond, Bool, true, false, List, [], ◌∷◌, slice_index, Option, Some, None, IfSome, IsNone, option_map, refl, sym, ap, subst, ◌∙◌, ne_eqb, arith}
-use Rattle.std.proofs.lemmas.Bool.{eqb-true, eqb-false, le-ltb}
+use Rattle.std.proofs.Common.{◌≡◌, ℕ, ◌+◌, ◌-◌, ◌*◌, ◌<◌, ◌==◌, cond, Bool, true, false, List, [], ◌∷◌, slice_index, Option, Some, None, IfSome, IsNone, option_map, refl, sym, ap, subst, ◌∙◌, ne_eqb, arith}
+use Rattle.std.proofs.lemmas.Bool.{eqb-true, eqb-false}
 use Rattle.rv64_model.specs.Carries.{operands}
-use Rattle.parts_model.specs.Numbered.{nth}
 use Rattle.parts_model.specs.declared.limits.TheConstants.{WINDOW_START}
 use Rattle.acts_model.specs.Transfers.{Holds, Begins, is_private}
 use Rattle.lineage_model.specs.Flow.{StartRegister, StartSlot, StartMemory, Register, Slot, Memory, Received, unless_result, when}
 use Rattle.lineage_model.specs.Flow as flow_of
-use Rattle.lineage_model.specs.Tracking.{EventByte, Tracked, gather}
+use Rattle.lineage_model.specs.Tracking.{gather}
 use Rattle.taint_events.specs.Beginning.{BeginsRegisters}
 use Rattle.taint_pages.specs.Rows.{byte_in}
 use Rattle.taint_state.specs.EventsShow.{BeginsShow}
 use Rattle.taint_state.specs.Goes.{hearing_of, hearings_of}
-use Rattle.taint_state.specs.Kept.{Kept, KeptHeard, heard_among, items_of, point_items, shown, shown_heard, shown_member}
-use Rattle.taint_state.specs.Shown.{AreItems, Shows, ShowsHeard, ShowsMember}
-use Rattle.taint_state.specs.Sound.{IsSound, IsSoundHeard}
-use Rattle.taint_state.specs.Steps.{fresh_holds, holders_of}
+use Rattle.taint_state.specs.Kept.{KeptHeard, heard_among, point_items, shown, shown_heard}
+use Rattle.taint_state.specs.Shown.{AreItems, ShowsHeard}
+use Rattle.taint_state.specs.Sound.{IsSoundHeard}
+use Rattle.taint_state.specs.Steps.{holders_of}
 use Rattle.taint_state.proofs.Keeping.{begins-sound, follows}
-use Rattle.taint_state.proofs.Flows.{Setting, Takes, cleared, given, members-show, taken, then, writes}
-use Rattle.taint_state.proofs.Goings.{hearing-kept, held-before, holds_kept, holders-kept, is-point, point-same, self-test}
+use Rattle.taint_state.proofs.Flows.{Setting, Takes, cleared, given, taken, then, writes}
+use Rattle.taint_state.proofs.Goings.{hearing-kept, held-before, is-point, point-same, self-test}
 use Rattle.taint_state.proofs.Reading.{private-bounds}
 use Rattle.taint_state.proofs.Receiving.{item-items}
 use Rattle.taint_state.proofs.Received.{window-inside}
+use Rattle.taint_state.proofs.Seeing.{holders-seen, members-seen}
 use Rattle.taint_state.proofs.Segments.{not-made}
 use Rattle.taint_state.proofs.StartingShown.{no-segment, own-before}
 
@@ -58,7 +58,7 @@ begins-show x y pid number e before new sound to begins =
     (begins-sound x y pid number new sound to begins)
     (record {
       linkage = begins.linkage;
-      holders = λ p. holders-kept y p ∙ by_test p (p == pid) refl;
+      holders = λ p. holders-seen x y pid new begins.members p ∙ ap (λ (h : Holds). cond (p == pid) (Some h) (holders_of (shown x) p)) to.holds;
       heard = λ k. ap (λ (o : Option KeptHeard). option_map hearing_of (option_map (shown_heard y) o)) (begins.heard k) ∙ hearing-kept x y (heard_among x.heard k);
       shows = λ clear possible t shows.
           let s : Setting = record {
@@ -74,7 +74,7 @@ begins-show x y pid number e before new sound to begins =
           } in
           record {
             members =
-                members-show s pid (Some new) begins.members
+                members-seen s pid new begins.members
                 (record {
                   registers = λ r i is. begin-register s pid new.registers r i (r == 10) refl to.registers is.above is.below is.byte (ap (λ b. when b (unless_result r (Received (StartRegister r i) ∷ []))) (self-test pid));
                   slot = λ r i is. taken s _ (Slot pid r i) (StartSlot r i) (item-items s (248 + (8 * (r - 1) + i)) (byte_in new.slot r i) (to.slot r i is.above is.below is.byte)) (ap (λ b. when b (Received (StartSlot r i) ∷ [])) (self-test pid));
@@ -99,10 +99,3 @@ begins-show x y pid number e before new sound to begins =
   where
     from-start : (a : ℕ) → is_private a ≡ true → WINDOW_START + (a - WINDOW_START) ≡ a
     from-start a is = let bounds = private-bounds a is in let above = bounds.0 in omega arith
-
-    by_test : (p : ℕ) (b : Bool) → (p == pid) ≡ b → holds_kept (nth y.members p) ≡ cond (p == pid) (Some (fresh_holds number)) (holders_of (shown x) p)
-    by_test p true h =
-        subst (λ q. holds_kept (nth y.members q) ≡ Some (fresh_holds number)) (sym (eqb-true p pid h)) (ap holds_kept begins.members.one ∙ ap (λ (k : Holds). Some k) to.holds)
-        ∙ ap (λ t. cond t (Some (fresh_holds number)) (holders_of (shown x) p)) (sym h)
-    by_test p false h =
-        ap holds_kept (begins.members.others p (eqb-false p pid h)) ∙ (sym (holders-kept x p) ∙ ap (λ t. cond t (Some (fresh_holds number)) (holders_of (shown x) p)) (sym h))

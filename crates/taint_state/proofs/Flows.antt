@@ -1,10 +1,9 @@
 -- What bytes have after an event of a member, where they take nothing, what another byte had, or a received byte.
-use Rattle.std.proofs.Common.{◌≡◌, ◌≢◌, ℕ, ◌-◌, ◌==◌, nat_lt, cond, Bool, true, false, List, [], ◌∷◌, ◌++◌, Option, Some, None, IfSome, IsTrue, option_map, unwrap_or, refl, sym, ap, subst, ◌∙◌, append-nil, arith}
-use Rattle.std.proofs.lemmas.Bool.{ltb-true, eqb-true, eqb-false}
+use Rattle.std.proofs.Common.{◌≡◌, ◌≢◌, ℕ, ◌==◌, cond, Bool, true, false, List, [], ◌∷◌, ◌++◌, Option, Some, None, IfSome, IsTrue, option_map, unwrap_or, refl, sym, ap, subst, ◌∙◌, append-nil, arith}
+use Rattle.std.proofs.lemmas.Bool.{eqb-true, eqb-false}
 use Rattle.rv64_model.specs.Carries.{Table}
 use Rattle.parts_model.specs.Numbered.{nth}
-use Rattle.set_store.specs.declared.item.Item.{Item}
-use Rattle.taint_spans.specs.Numbered.{IsSet, Numbered, members_of}
+use Rattle.taint_spans.specs.Numbered.{IsSet}
 use Rattle.acts_model.specs.Moved.{Event}
 use Rattle.acts_model.specs.Transfers.{Holds, Transfer, is_private, is_shared}
 use Rattle.lineage_model.specs.Flow.{At, Location, Register, Slot, Memory, Dependence, Prior, Received, written}

@@ -10,15 +10,16 @@ use Rattle.lineage_model.specs.Flow as flow_of
 use Rattle.lineage_model.specs.Tracking.{gather}
 use Rattle.taint_events.specs.Bytes.{AreEmpty}
 use Rattle.taint_pages.specs.Rows.{byte_in}
-use Rattle.taint_state.specs.Events.{FoundsTo, plain_heard}
+use Rattle.taint_state.specs.Events.{FoundsTo, plain_heard, sees}
 use Rattle.taint_state.specs.EventsShow.{ForksShow, FoundsShow}
 use Rattle.taint_state.specs.Kept.{KeptHeard, KeptMember, KeptStart, items_of, point_items, shown, shown_heard, shown_member}
 use Rattle.taint_state.specs.Shown.{AreItems, IsPoint, IsRegisterByte, ShowsMember}
 use Rattle.taint_state.specs.Sound.{IsSoundMember}
 use Rattle.taint_state.specs.Steps.{child_holds, holders_of}
 use Rattle.taint_state.proofs.Keeping.{becomes-sound, child-sound, follows, good-empty, old-sound, plain-sound, returned-sound, start-sound, two-sound, zero-later}
-use Rattle.taint_state.proofs.Flows.{Setting, Unwritten, copied, copied-where, given, kept, members-show, of-nothing, of-prior, row-cleared, same-member, shown-before, sound-before, then}
+use Rattle.taint_state.proofs.Flows.{Setting, Unwritten, copied, copied-where, given, kept, members-show, of-nothing, of-prior, row-cleared, shown-before, sound-before, then}
 use Rattle.taint_state.proofs.Goings.{PointsShow, absent-before, empty-points, goes, held-before, holds_kept, holders-kept, holders-same, self-test, setting, unheld-before}
+use Rattle.taint_state.proofs.Seeing.{seen-kept, unwritten-sees}
 use Rattle.taint_state.proofs.Segments.{not-made}
 
 two : (f : Bool → Bool → Option (List Dependence)) (a b c d : Bool) → a ≡ c → b ≡ d → f a b ≡ f c d
@@ -26,15 +27,15 @@ two f a b c d e h = ap (λ k. f k b) e ∙ ap (λ k. f c k) h
 
 -- all members, where one is another, one begins, and none of the bytes of all others is written
 members-two : (s : Setting) (pid child : ℕ) (new kid : KeptMember) → nth s.y.members pid ≡ Some new → nth s.y.members child ≡ Some kid
-    → ((p : ℕ) → p ≢ pid → p ≢ child → nth s.y.members p ≡ nth s.x.members p)
+    → ((p : ℕ) → p ≢ pid → p ≢ child → nth s.y.members p ≡ option_map (sees kid) (nth s.x.members p))
     → ShowsMember pid (then s) (shown_member s.y new) → ShowsMember child (then s) (shown_member s.y kid)
     → ((p : ℕ) (other : KeptMember) → p ≢ pid → p ≢ child → nth s.x.members p ≡ Some other → Unwritten s p other.holds)
     → (p : ℕ) → IfSome ((shown s.y).members p) (ShowsMember p (then s))
 members-two s pid child new kid parent begins same own kids unwritten p = by_tests (p == pid) (p == child) refl refl
   where
-    of_other : p ≢ pid → p ≢ child → (o : Option KeptMember) → nth s.x.members p ≡ o → IfSome (option_map (shown_member s.y) o) (ShowsMember p (then s))
+    of_other : p ≢ pid → p ≢ child → (o : Option KeptMember) → nth s.x.members p ≡ o → IfSome (option_map (shown_member s.y) (option_map (sees kid) o)) (ShowsMember p (then s))
     of_other a b None e = tt
-    of_other a b (Some other) e = same-member s p other (sound-before s p other e) (unwritten p other a b e) (shown-before s p other e)
+    of_other a b (Some other) e = unwritten-sees s p child kid other kids e (unwritten p other a b e)
 
     by_tests : (a b : Bool) → (p == pid) ≡ a → (p == child) ≡ b → IfSome ((shown s.y).members p) (ShowsMember p (then s))
     by_tests true b e h =
@@ -110,7 +111,7 @@ forks-show x y pid number e before child old new kid numbers sound empty to fork
         ∙ ap (λ t. cond t (child_holds number (holders_of (shown x) pid)) (holders_of (shown x) p)) (sym k))
     by_tests p false false k j kid_holds holds =
         holders-kept y p
-        ∙ (ap holds_kept (becomes.others p (eqb-false p pid j) (eqb-false p child k))
+        ∙ (ap holds_kept (becomes.others p (eqb-false p pid j) (eqb-false p child k)) ∙ seen-kept kid (nth x.members p)
         ∙ (sym (holders-kept x p) ∙ ap (λ t. cond t (child_holds number (holders_of (shown x) pid)) (holders_of (shown x) p)) (sym k)))
 
 -- what a child has that starts a group

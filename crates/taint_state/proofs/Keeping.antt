@@ -16,7 +16,7 @@ use Rattle.taint_members.specs.Access.{ByTest}
 use Rattle.taint_members.specs.Rows.{AreZero, ClearsResult, IsSaved}
 use Rattle.taint_pages.specs.Pages.{Puts}
 use Rattle.taint_pages.specs.Rows.{byte_in}
-use Rattle.taint_state.specs.Events.{Becomes, BecomesShared, BecomesTwo, Begins, BeginsTo, DeliversTo, ForksTo, FoundsTo, Hears, LeavesTo, ReceivesTo, ReturnsTo, SharesTo, StartsTo, WritesHeld, is_one, number_at, plain_heard, shares_with}
+use Rattle.taint_state.specs.Events.{Becomes, BecomesShared, BecomesTwo, Begins, BeginsTo, DeliversTo, ForksTo, FoundsTo, Hears, LeavesTo, ReceivesTo, ReturnsTo, SharesTo, StartsTo, PutsSeen, WritesHeld, is_one, number_at, plain_heard, sees}
 use Rattle.taint_state.specs.Goes.{GoesBy}
 use Rattle.taint_state.specs.EventsShow.{Follows}
 use Rattle.taint_state.specs.Kept.{Kept, KeptHeard, KeptMember, KeptStart, heard_among, shown}
@@ -286,14 +286,59 @@ begun-sound y event new zero_set to = record {
   unheld = λ none. to.segment;
 }
 
+seen-segment : (sets : Numbered) (new m : KeptMember) (b : Bool) → is_one m.holds.segment new.holds.segment ≡ b → IsSoundMember sets new → IsSoundMember sets m
+    → IsSoundMember sets (record m { segment = cond b new.segment m.segment })
+seen-segment sets new m true e own sound =
+    let same = one-true m.holds.segment new.holds.segment e in
+    record {
+      registers = sound.registers;
+      slot = sound.slot;
+      window = sound.window;
+      segment = own.segment;
+      window_whole = sound.window_whole;
+      segment_whole = λ made has. own.segment_whole made (sym same ∙ has);
+      unheld = λ none. own.unheld (sym same ∙ none);
+    }
+seen-segment sets new m false e own sound = sound
+
+seen-window : (sets : Numbered) (new m : KeptMember) (w : Bool) → IsSoundMember sets new → IsSoundMember sets m → IsSoundMember sets (record m { window = cond w new.window m.window })
+seen-window sets new m true own sound = record {
+  registers = sound.registers;
+  slot = sound.slot;
+  window = own.window;
+  segment = sound.segment;
+  window_whole = own.window_whole;
+  segment_whole = sound.segment_whole;
+  unheld = sound.unheld;
+}
+seen-window sets new m false own sound = sound
+
+-- who holds a memory of a sound member is sound with it
+pub seeing-sound : (sets : Numbered) (new m : KeptMember) → IsSoundMember sets new → IsSoundMember sets m → IsSoundMember sets (sees new m)
+seeing-sound sets new m own sound =
+    seen-segment sets new (record m { window = cond (m.holds.window == new.holds.window) new.window m.window }) (is_one m.holds.segment new.holds.segment) refl own
+    (seen-window sets new m (m.holds.window == new.holds.window) own sound)
+
+seen-option : (x y : Kept) (new : KeptMember) → StandAsBefore x.sets y.sets → IsSoundMember y.sets new → (o : Option KeptMember) → IfSome o (IsSoundMember x.sets) → IfSome (option_map (sees new) o) (IsSoundMember y.sets)
+seen-option x y new stands own None h = tt
+seen-option x y new stands own (Some m) h = seeing-sound y.sets new m own (later-member x.sets y.sets m stands h)
+
+pub seen-sound : (x y : Kept) (pid : ℕ) (new : KeptMember) → IsSound x → StandAsBefore x.sets y.sets → PutsSeen pid new x.members y.members → IsSoundMember y.sets new
+    → (p : ℕ) → IfSome (nth y.members p) (IsSoundMember y.sets)
+seen-sound x y pid new sound stands b own p = of (p == pid) refl
+  where
+    of : (t : Bool) → (p == pid) ≡ t → IfSome (nth y.members p) (IsSoundMember y.sets)
+    of true h = subst (λ q. IfSome (nth y.members q) (IsSoundMember y.sets)) (sym (eqb-true p pid h)) (subst (λ o. IfSome o (IsSoundMember y.sets)) (sym b.one) own)
+    of false h = subst (λ o. IfSome o (IsSoundMember y.sets)) (sym (b.others p (eqb-false p pid h))) (seen-option x y new stands own (nth x.members p) (sound.members p))
+
+pub sharers-sound : (x y : Kept) (pid : ℕ) (old new : KeptMember) (heard : KeptHeard) → IsSound x → BecomesShared pid old new heard x y → IsSoundMember y.sets new → IsSoundHeard y.sets heard → IsSound y
+sharers-sound x y pid old new heard sound b own event =
+    all-sound x y sound b.stays.sets (seen-sound x y pid new sound b.stays.sets b.members own) (heard-sound x y heard sound b.stays.sets b.heard event)
+
 pub begins-sound : (x y : Kept) (pid event : ℕ) (new : KeptMember) → IsSound x → BeginsTo y event new → Begins pid event new x y → IsSound y
 begins-sound x y pid event new sound to b =
-    all-sound x y sound b.sets (λ p. of p (p == pid) refl)
+    all-sound x y sound b.sets (seen-sound x y pid new sound b.sets b.members (begun-sound y event new (zero-later x y sound b.sets) to))
     (λ e. subst (λ o. IfSome o (IsSoundHeard y.sets)) (sym (b.heard e)) (later-heard x.sets y.sets (heard_among x.heard e) b.sets (sound.heard e)))
-  where
-    of : (p : ℕ) (t : Bool) → (p == pid) ≡ t → IfSome (nth y.members p) (IsSoundMember y.sets)
-    of p true h = subst (λ q. IfSome (nth y.members q) (IsSoundMember y.sets)) (sym (eqb-true p pid h)) (subst (λ o. IfSome o (IsSoundMember y.sets)) (sym b.members.one) (begun-sound y event new (zero-later x y sound b.sets) to))
-    of p false h = subst (λ o. IfSome o (IsSoundMember y.sets)) (sym (b.members.others p (eqb-false p pid h))) (later-option x.sets y.sets (nth x.members p) b.sets (sound.members p))
 
 pub two-sound : (x y : Kept) (pid child : ℕ) (old new kid : KeptMember) (heard : KeptHeard) → IsSound x → BecomesTwo pid child old new kid heard x y → IsSoundMember y.sets new → IsSoundMember y.sets kid
     → IsSoundHeard y.sets heard → IsSound y
@@ -307,7 +352,7 @@ two-sound x y pid child old new kid heard sound b own begins event =
         subst (λ q. IfSome (nth y.members q) (IsSoundMember y.sets)) (sym same)
         (subst (λ o. IfSome o (IsSoundMember y.sets)) (sym (b.parent (subst (λ q. q ≢ child) same (eqb-false p child h)))) own)
     of p false false h i =
-        subst (λ o. IfSome o (IsSoundMember y.sets)) (sym (b.others p (eqb-false p pid i) (eqb-false p child h))) (later-option x.sets y.sets (nth x.members p) b.stays.sets (sound.members p))
+        subst (λ o. IfSome o (IsSoundMember y.sets)) (sym (b.others p (eqb-false p pid i) (eqb-false p child h))) (seen-option x y kid b.stays.sets begins (nth x.members p) (sound.members p))
 
 pub received-sound : (sets : Numbered) (at : ℕ) (numbers : List ℕ) (old new : KeptMember) → IsSet sets 0 → AreSets sets numbers → ReceivesTo at numbers old new → IsSoundMember sets old → IsSoundMember sets new
 received-sound sets at numbers old new zero_set good to sound = subst (IsSoundMember sets) (sym to.others) (record {
@@ -335,35 +380,6 @@ received-sound sets at numbers old new zero_set good to sound = subst (IsSoundMe
     of-none : (b : Bool) → old.holds.segment ≡ None → ByTest b (WritesHeld (at - SEGMENT_START) numbers old.holds.segment old.segment new.segment) (new.segment ≡ old.segment) → new.segment ≡ []
     of-none true none w = subst (λ o. WritesHeld (at - SEGMENT_START) numbers o old.segment new.segment) none w ∙ sound.unheld none
     of-none false none same = same ∙ sound.unheld none
-
-sharing-sound : (sets : Numbered) (new m : KeptMember) → IsSoundMember sets new → IsSoundMember sets m → IsSoundMember sets (shares_with new m)
-sharing-sound sets new m own sound = of (is_one m.holds.segment new.holds.segment) refl
-  where
-    of : (b : Bool) → is_one m.holds.segment new.holds.segment ≡ b → IsSoundMember sets (cond b (record m { segment = new.segment }) m)
-    of true e =
-        let same = one-true m.holds.segment new.holds.segment e in
-        record {
-          registers = sound.registers;
-          slot = sound.slot;
-          window = sound.window;
-          segment = own.segment;
-          window_whole = sound.window_whole;
-          segment_whole = λ made has. own.segment_whole made (sym same ∙ has);
-          unheld = λ none. own.unheld (sym same ∙ none);
-        }
-    of false e = sound
-
-pub sharers-sound : (x y : Kept) (pid : ℕ) (old new : KeptMember) (heard : KeptHeard) → IsSound x → BecomesShared pid old new heard x y → IsSoundMember y.sets new → IsSoundHeard y.sets heard → IsSound y
-sharers-sound x y pid old new heard sound b own event =
-    all-sound x y sound b.stays.sets (λ p. of p (p == pid) refl) (heard-sound x y heard sound b.stays.sets b.heard event)
-  where
-    each : (o : Option KeptMember) → IfSome o (IsSoundMember x.sets) → IfSome (option_map (shares_with new) o) (IsSoundMember y.sets)
-    each None h = tt
-    each (Some m) h = sharing-sound y.sets new m own (later-member x.sets y.sets m b.stays.sets h)
-
-    of : (p : ℕ) (t : Bool) → (p == pid) ≡ t → IfSome (nth y.members p) (IsSoundMember y.sets)
-    of p true h = subst (λ q. IfSome (nth y.members q) (IsSoundMember y.sets)) (sym (eqb-true p pid h)) (subst (λ o. IfSome o (IsSoundMember y.sets)) (sym b.one) own)
-    of p false h = subst (λ o. IfSome o (IsSoundMember y.sets)) (sym (b.others p (eqb-false p pid h))) (each (nth x.members p) (sound.members p))
 
 pub follows : (inside : Inside) (x y : Kept) → IsSound y → GoesBy inside (shown x) (shown y) → Follows inside x y
 follows inside x y sound goes = record { sound = sound; goes = goes }

@@ -1,26 +1,26 @@
 -- What is kept stays sound by an instruction.
-use Rattle.std.proofs.Common.{◌≡◌, ◌≢◌, ℕ, ◌+◌, ◌-◌, ◌<◌, ◌==◌, ◌&&◌, nat_lt, Bool, true, false, if◌then◌else◌, List, [], length, take, slice_index, slice_index_or, Option, Some, None, IfSome, option_map, refl, sym, subst, ap, ◌∙◌, inl, inr, ◌⊎◌, ◌≤◌, arith}
-use Rattle.std.proofs.lemmas.Bool.{eqb-true, eqb-false, ltb-true, ltb-false}
+use Rattle.std.proofs.Common.{◌≡◌, ℕ, ◌+◌, ◌-◌, ◌<◌, ◌==◌, ◌&&◌, nat_lt, Bool, true, false, if◌then◌else◌, List, [], length, take, slice_index, Option, Some, None, IfSome, option_map, refl, sym, subst, ap, ◌∙◌, inl, inr, ◌⊎◌, ◌≤◌, arith}
+use Rattle.std.proofs.lemmas.Bool.{ltb-true, ltb-false}
 use Rattle.std.proofs.lemmas.List.{get_or-take, length-take-le}
 use Rattle.std.proofs.lemmas.Grind.{common_steps}
 use Rattle.arn_base.specs.declared.machine.Cpu.{Cpu}
 use Rattle.rv64_isa.specs.declared.instruction.Instr.{Instr}
 use Rattle.rv64_model.specs.Operands.{accessed, rd_of, stored_len}
 use Rattle.parts_model.specs.declared.limits.TheConstants.{WINDOW_START, SEGMENT_START}
-use Rattle.parts_model.specs.Numbered.{nth}
 use Rattle.taint_spans.specs.Numbered.{IsSet, Numbered, StandAsBefore}
 use Rattle.acts_model.specs.Transfers.{is_private, is_shared}
-use Rattle.taint_members.specs.Access.{ByTest, Segments, WritesHeld, held_numbers}
-use Rattle.taint_members.specs.declared.member.MemberSets.{MemberSets}
-use Rattle.taint_members.specs.declared.member.Shared.{Shared}
+use Rattle.taint_members.specs.Access.{ByTest, held_numbers}
+use Rattle.taint_members.specs.declared.member.Held.{Held}
 use Rattle.taint_pages.specs.Pages.{Puts}
 use Rattle.taint_pages.specs.Rows.{byte_in}
-use Rattle.taint_steps.specs.Running.{StoresSegment, StoresWindow}
+use Rattle.taint_state.specs.Events.{WritesHeld}
 use Rattle.taint_state.specs.Kept.{Kept, KeptHeard, KeptMember, KeptStart, heard_among}
-use Rattle.taint_state.specs.RunsShow.{RunsIn, RunsKeep, is_same, sees}
+use Rattle.taint_state.specs.RunsShow.{RunsIn, RunsKeep}
 use Rattle.taint_state.specs.Sound.{AreSets, AreSetsOfRow, IsSound, IsSoundHeard, IsSoundMember, IsSoundStart}
 use Rattle.taint_state.proofs.Reach.{stored-few}
-use Rattle.taint_state.proofs.Runs.{after_kept, heard-same, if-some, kept-after, own, same-made, was_kept}
+use Rattle.taint_state.proofs.Runs.{after_kept, heard-same, own, seen-after, stored-segment, stored-window, was_kept}
+use Rattle.taint_state.proofs.Keeping.{seen-sound}
+use Rattle.taint_state.proofs.Stored.{StoresSegment, StoresWindow}
 
 -- sets that were added to
 
@@ -84,37 +84,22 @@ module _ (sets : Numbered) (numbers : List ℕ) (len : ℕ) (eight : length numb
           let same = puts.len in
           subst (IsSet sets) (sym (behind (omega arith))) zero_set
 
-  window-sound : (acc : Option ℕ) (m n : MemberSets) → StoresWindow acc (take len numbers) m n → AreSets sets m.window → AreSets sets n.window
-  window-sound None m n s h = subst (AreSets sets) (sym s) h
-  window-sound (Some at) m n s h = by_test (is_private at) s
+  window-sound : (acc : Option ℕ) (old new : List ℕ) → StoresWindow acc (take len numbers) old new → AreSets sets old → AreSets sets new × (length new ≡ length old)
+  window-sound None old new s h = (subst (AreSets sets) (sym s) h, ap length s)
+  window-sound (Some at) old new s h = by_test (is_private at) s
     where
-      by_test : (b : Bool) → ByTest b (Puts (at - WINDOW_START) (take len numbers) m.window n.window) (n.window ≡ m.window) → AreSets sets n.window
-      by_test true s = puts-sound (at - WINDOW_START) m.window n.window s h
-      by_test false s = subst (AreSets sets) (sym s) h
+      by_test : (b : Bool) → ByTest b (Puts (at - WINDOW_START) (take len numbers) old new) (new ≡ old) → AreSets sets new × (length new ≡ length old)
+      by_test true s = (puts-sound (at - WINDOW_START) old new s h, s.len)
+      by_test false s = (subst (AreSets sets) (sym s) h, ap length s)
 
-  window-len : (acc : Option ℕ) (m n : MemberSets) → StoresWindow acc (take len numbers) m n → length n.window ≡ length m.window
-  window-len None m n s = ap length s
-  window-len (Some at) m n s = by_test (is_private at) s
+  segment-sound : (acc held : Option ℕ) (old new : List ℕ) → StoresSegment acc (take len numbers) held old new → AreSets sets old → AreSets sets new × (length new ≡ length old)
+  segment-sound None held old new s h = (subst (AreSets sets) (sym s) h, ap length s)
+  segment-sound (Some at) held old new s h = by_test (is_shared at) held s
     where
-      by_test : (b : Bool) → ByTest b (Puts (at - WINDOW_START) (take len numbers) m.window n.window) (n.window ≡ m.window) → length n.window ≡ length m.window
-      by_test true s = s.len
-      by_test false s = ap length s
-
-  segment-sound : (acc : Option ℕ) (segment : Option Shared) (old new : Segments) → StoresSegment acc (take len numbers) segment old new
-      → AreSets sets (held_numbers segment old) → AreSets sets (held_numbers segment new) × (length (held_numbers segment new) ≡ length (held_numbers segment old))
-  segment-sound acc None old new s h = (h, refl)
-  segment-sound None (Some shared) old new s h = (subst (λ l. AreSets sets (slice_index_or l shared.key [])) (sym s) h, ap (λ l. length (slice_index_or l shared.key [])) s)
-  segment-sound (Some at) (Some shared) old new s h = by_test (is_shared at) s
-    where
-      by_test : (b : Bool) → ByTest b (WritesHeld at (take len numbers) (Some shared) old new) (new ≡ old)
-          → AreSets sets (held_numbers (Some shared) new) × (length (held_numbers (Some shared) new) ≡ length (held_numbers (Some shared) old))
-      by_test true s = (puts-sound (at - SEGMENT_START) (slice_index_or old shared.key []) (slice_index_or new shared.key []) s.one h, s.one.len)
-      by_test false s = (subst (λ l. AreSets sets (slice_index_or l shared.key [])) (sym s) h, ap (λ l. length (slice_index_or l shared.key [])) s)
-
-none-made : (a b : Option ℕ) → is_same a b ≡ true → b ≢ None
-none-made None b s = absurd (cc)
-none-made (Some k) None s = absurd (cc)
-none-made (Some k) (Some j) s = λ e. cc
+      by_test : (b : Bool) (held : Option ℕ) → ByTest b (WritesHeld (at - SEGMENT_START) (take len numbers) held old new) (new ≡ old) → AreSets sets new × (length new ≡ length old)
+      by_test true None s = (subst (AreSets sets) (sym s) h, ap length s)
+      by_test true (Some made) s = (puts-sound (at - SEGMENT_START) old new s h, s.len)
+      by_test false held s = (subst (AreSets sets) (sym s) h, ap length s)
 
 module _ (pid : ℕ) (instr : Instr) (before : Cpu) (x y : Kept) (sound : IsSound x) (ran : RunsIn pid instr before x y) where
   abbrev taken : List ℕ
@@ -139,67 +124,42 @@ module _ (pid : ℕ) (instr : Instr) (before : Cpu) (x y : Kept) (sound : IsSoun
   zero-set : IsSet y.sets 0
   zero-set = ran.stand.there 0 sound.zero
 
-  segment-written : AreSets y.sets (held_numbers ran.member.segment ran.written) × (length (held_numbers ran.member.segment ran.written) ≡ length (held_numbers ran.member.segment ran.segments))
-  segment-written =
-      segment-sound y.sets taken (stored_len instr) eight (stored-few instr) set-at zero-set (accessed instr before) ran.member.segment ran.segments ran.written ran.runs.segment
-      (memory-grows x.sets y.sets (held_numbers ran.member.segment ran.segments) ran.stand ours.segment)
-
-  none-held : (s : Option Shared) → option_map (λ (u : Shared). u.made) s ≡ None → held_numbers s ran.written ≡ []
-  none-held None e = refl
-  none-held (Some shared) e = absurd (cc)
-
-  runner-sound : IsSoundMember y.sets (after_kept pid instr before x y sound ran)
-  runner-sound = record {
-    registers = registers-sound;
-    slot = row-grows x.sets y.sets ran.member.slot ran.stand ours.slot;
-    window =
-        window-sound y.sets taken (stored_len instr) eight (stored-few instr) set-at zero-set (accessed instr before) ran.member ran.changed ran.runs.window (memory-grows x.sets y.sets ran.member.window ran.stand ours.window);
-    segment = segment-written.0;
-    window_whole = window-len y.sets taken (stored_len instr) eight (stored-few instr) set-at zero-set (accessed instr before) ran.member ran.changed ran.runs.window ∙ ours.window_whole;
-    segment_whole = λ made e. segment-written.1 ∙ ours.segment_whole made e;
-    unheld = λ e. none-held ran.member.segment e;
-  }
+  abbrev was_this : KeptMember
+  was_this = was_kept pid instr before x y sound ran
 
   abbrev after_this : KeptMember
   after_this = after_kept pid instr before x y sound ran
 
-  other-sound : (other : KeptMember) → IsSoundMember x.sets other → IsSoundMember y.sets (sees after_this other)
-  other-sound other h = by_test (is_same after_this.holds.segment other.holds.segment) refl
-    where
-      grown : IsSoundMember y.sets other
-      grown = member-grows x.sets y.sets other ran.stand h
+  window-written : AreSets y.sets after_this.window × (length after_this.window ≡ length was_this.window)
+  window-written =
+      window-sound y.sets taken (stored_len instr) eight (stored-few instr) set-at zero-set (accessed instr before) was_this.window after_this.window (stored-window pid instr before x y sound ran)
+      (memory-grows x.sets y.sets was_this.window ran.stand ours.window)
 
-      by_test : (b : Bool) → is_same after_this.holds.segment other.holds.segment ≡ b → IsSoundMember y.sets (if b then record other { segment = after_this.segment } else other)
-      by_test true e = record {
-        registers = grown.registers;
-        slot = grown.slot;
-        window = grown.window;
-        segment = runner-sound.segment;
-        window_whole = grown.window_whole;
-        segment_whole = λ made held. runner-sound.segment_whole made (same-made after_this.holds.segment other.holds.segment made e held);
-        unheld = λ held. absurd (none-made after_this.holds.segment other.holds.segment e held);
-      }
-      by_test false e = grown
+  segment-written : AreSets y.sets after_this.segment × (length after_this.segment ≡ length was_this.segment)
+  segment-written =
+      segment-sound y.sets taken (stored_len instr) eight (stored-few instr) set-at zero-set (accessed instr before) was_this.holds.segment was_this.segment after_this.segment (stored-segment pid instr before x y sound ran)
+      (memory-grows x.sets y.sets was_this.segment ran.stand ours.segment)
 
-  members-sound : (q : ℕ) → IfSome (nth y.members q) (IsSoundMember y.sets)
-  members-sound q = by_test (q == pid) refl
-    where
-      by_other : (o : Option KeptMember) → IfSome o (IsSoundMember x.sets) → IfSome (option_map (sees after_this) o) (IsSoundMember y.sets)
-      by_other None h = tt
-      by_other (Some other) h = other-sound other h
+  none-held : (s : Option Held) → option_map (λ (u : Held). u.made) s ≡ None → held_numbers s ran.written ≡ []
+  none-held None e = refl
+  none-held (Some held) e = absurd (cc)
 
-      by_test : (b : Bool) → (q == pid) ≡ b → IfSome (nth y.members q) (IsSoundMember y.sets)
-      by_test true e =
-          if-some (IsSoundMember y.sets) (nth y.members q) after_this (ap (nth y.members) (eqb-true q pid e) ∙ ran.is ∙ ap Some (kept-after pid instr before x y sound ran)) runner-sound
-      by_test false e =
-          subst (λ o. IfSome o (IsSoundMember y.sets)) (sym (ran.others q (eqb-false q pid e) ∙ ap (λ k. option_map (sees k) (nth x.members q)) (kept-after pid instr before x y sound ran)))
-          (by_other (nth x.members q) (sound.members q))
+  runner-sound : IsSoundMember y.sets after_this
+  runner-sound = record {
+    registers = registers-sound;
+    slot = row-grows x.sets y.sets ran.member.slot ran.stand ours.slot;
+    window = window-written.0;
+    segment = segment-written.0;
+    window_whole = window-written.1 ∙ ours.window_whole;
+    segment_whole = λ made e. segment-written.1 ∙ ours.segment_whole made e;
+    unheld = λ e. none-held ran.member.segment e;
+  }
 
   keeps : IsSound y
   keeps = record {
     zero = zero-set;
     empty = ran.stand.same 0 sound.zero ∙ sound.empty;
-    members = members-sound;
+    members = seen-sound x y pid after_this sound ran.stand (seen-after pid instr before x y sound ran) runner-sound;
     heard = λ event.
         subst (λ l. IfSome (heard_among l event) (IsSoundHeard y.sets)) (sym (heard-same pid instr before x y sound ran)) (heard-grows x.sets y.sets (heard_among x.heard event) ran.stand (sound.heard event));
   }

@@ -22,3 +22,5 @@ pub mod Lying
 pub mod LensShown
 pub mod Ordered
 pub mod Carrying
+pub mod Seeing
+pub mod Stored

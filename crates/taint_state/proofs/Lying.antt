@@ -1,6 +1,6 @@
 -- Memories that lie apart still do after a step that is possible.
 use Rattle.std.proofs.Common.{◌≡◌, ◌≢◌, ℕ, ◌==◌, cond, Bool, true, false, Option, Some, None, IfSome, refl, sym, ap, subst, ◌∙◌}
-use Rattle.std.proofs.lemmas.Bool.{eqb-true, eqb-false}
+use Rattle.std.proofs.lemmas.Bool.{eqb-false}
 use Rattle.acts_model.specs.Transfers.{Holds, Arrives, Starts, Runs, Returns, Receives, Gives, Forks, Founds, Begins, Shares, Delivers, Leaves, Exits, Faults, Dies}
 use Rattle.taint_state.specs.Goes.{AreApart, StayApart}
 use Rattle.taint_state.specs.Goes.{IsOwn, IsUnheld, IsUnheldBy}
@@ -21,7 +21,6 @@ some-number a b e = cc
 -- who is gone holds nothing
 without : (pid : ℕ) (h : Holders) → AreApart h → AreApart (with_holder pid None h)
 without pid h apart = record {
-  windows = λ p q a b e f. apart.windows p q a b (held p a (p == pid) e) (held q b (q == pid) f);
   kinds = λ p q a b e f. apart.kinds p q a b (held p a (p == pid) e) (held q b (q == pid) f);
 }
   where
@@ -31,23 +30,15 @@ without pid h apart = record {
 
 -- what one holds from now on lies apart from what all others hold
 record LiesApart (pid : ℕ) (n : Holds) (h : Holders) : Type 0 where
-  window : (q : ℕ) (b : Holds) → q ≢ pid → h q ≡ Some b → n.window ≢ b.window
   others : (q : ℕ) (b : Holds) → q ≢ pid → h q ≡ Some b → b.segment ≢ Some n.window
   segment : (q : ℕ) (b : Holds) → q ≢ pid → h q ≡ Some b → n.segment ≢ Some b.window
   own : n.segment ≢ Some n.window
 
 with-one : (pid : ℕ) (n : Holds) (h : Holders) → AreApart h → LiesApart pid n h → AreApart (with_holder pid (Some n) h)
 with-one pid n h apart lies = record {
-  windows = λ p q a b. windows p q a b (p == pid) (q == pid) refl refl;
   kinds = λ p q a b. kinds p q a b (p == pid) (q == pid) refl refl;
 }
   where
-    windows : (p q : ℕ) (a b : Holds) (t u : Bool) → (p == pid) ≡ t → (q == pid) ≡ u → cond t (Some n) (h p) ≡ Some a → cond u (Some n) (h q) ≡ Some b → a.window ≡ b.window → p ≡ q
-    windows p q a b true true i j e f same = eqb-true p pid i ∙ sym (eqb-true q pid j)
-    windows p q a b true false i j e f same = absurd (lies.window q b (eqb-false q pid j) f (ap (λ (k : Holds). k.window) (some-holds n a e) ∙ same))
-    windows p q a b false true i j e f same = absurd (lies.window p a (eqb-false p pid i) e (ap (λ (k : Holds). k.window) (some-holds n b f) ∙ sym same))
-    windows p q a b false false i j e f same = apart.windows p q a b e f same
-
     kinds : (p q : ℕ) (a b : Holds) (t u : Bool) → (p == pid) ≡ t → (q == pid) ≡ u → cond t (Some n) (h p) ≡ Some a → cond u (Some n) (h q) ≡ Some b → b.segment ≢ Some a.window
     kinds p q a b true true i j e f same =
         lies.own (ap (λ (k : Holds). k.segment) (some-holds n b f) ∙ (same ∙ ap (λ (k : Holds). Some k.window) (sym (some-holds n a e))))
@@ -60,7 +51,6 @@ unheld-here made p h a unheld e = subst (λ o. IfSome o (IsUnheldBy made)) e (un
 
 fresh-lies : (pid made : ℕ) (h : Holders) → IsOwn h pid made → LiesApart pid (fresh_holds made) h
 fresh-lies pid made h own = record {
-  window = λ q b ne e same. (here q b ne e).window (sym same);
   others = λ q b ne e. (here q b ne e).segment;
   segment = λ q b ne e same. none-some b.window same;
   own = λ same. none-some made same;
@@ -72,7 +62,6 @@ fresh-lies pid made h own = record {
 shared-apart : (pid made : ℕ) (h : Holders) (o : Option Holds) → h pid ≡ o → AreApart h → IsUnheld h made → AreApart (with_holder pid (shared_holds made o) h)
 shared-apart pid made h None is apart unheld = without pid h apart
 shared-apart pid made h (Some a) is apart unheld = with-one pid (record { window = a.window; segment = Some made }) h apart (record {
-  window = λ q b ne e same. ne (sym (apart.windows pid q a b is e same));
   others = λ q b ne e. apart.kinds pid q a b is e;
   segment = λ q b ne e same. (unheld-here made q h b unheld e).window (sym (some-number made b.window same));
   own = λ same. (unheld-here made pid h a unheld is).window (sym (some-number made a.window same));
@@ -81,7 +70,6 @@ shared-apart pid made h (Some a) is apart unheld = with-one pid (record { window
 forked-apart : (pid child into : ℕ) (h : Holders) (o : Option Holds) → h pid ≡ o → AreApart h → IsUnheld h into → AreApart (with_holder child (child_holds into o) h)
 forked-apart pid child into h None is apart unheld = without child h apart
 forked-apart pid child into h (Some a) is apart unheld = with-one child (record { window = into; segment = a.segment }) h apart (record {
-  window = λ q b ne e same. (unheld-here into q h b unheld e).window (sym same);
   others = λ q b ne e. (unheld-here into q h b unheld e).segment;
   segment = λ q b ne e. apart.kinds q pid b a e is;
   own = (unheld-here into pid h a unheld is).segment;

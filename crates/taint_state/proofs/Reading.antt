@@ -1,6 +1,6 @@
 -- Bytes of a member's memories from an address on.
 use Rattle.std.proofs.Common.{◌≡◌, ℕ, ◌+◌, ◌-◌, ◌<◌, ◌≤◌, ◌==◌, ◌&&◌, nat_le, nat_lt, cond, Bool, true, false, List, [], ◌∷◌, map, slice_index, Option, Some, None, option_map, refl, sym, ap, subst, ◌∙◌, ne_eqb, arith}
-use Rattle.std.proofs.lemmas.Bool.{leb-true, lt-ltb, ltb-true}
+use Rattle.std.proofs.lemmas.Bool.{leb-true, ltb-true}
 use Rattle.parts_model.specs.declared.limits.TheConstants.{WINDOW_START, WINDOW_END, SEGMENT_START, SEGMENT_END}
 use Rattle.acts_model.specs.Transfers.{Holds, Place, is_private, is_shared, place_of}
 use Rattle.lineage_model.specs.Flow.{Location, Memory, Prior, bytes_at}

@@ -1,6 +1,6 @@
 -- What is shown goes on by an instruction.
 use Rattle.std.proofs.Common.{◌≡◌, ◌≢◌, ℕ, zero, suc, ◌-◌, ◌<◌, ◌==◌, ◌&&◌, nat_lt, Bool, true, false, if◌then◌else◌, List, [], ◌∷◌, ◌++◌, take, slice_index, Option, Some, None, IfSome, option_map, option_and_then, unwrap_or, refl, sym, subst, ap, ◌∙◌, arith}
-use Rattle.std.proofs.lemmas.Bool.{eqb-true, eqb-false, eq-eqb, ltb-true, lt-ltb}
+use Rattle.std.proofs.lemmas.Bool.{eqb-true, eq-eqb, lt-ltb}
 use Rattle.arn_base.specs.declared.machine.Cpu.{Cpu}
 use Rattle.rv64_isa.specs.declared.instruction.Instr.{Instr}
 use Rattle.rv64_model.specs.Carries.{Table, operands}
@@ -8,25 +8,26 @@ use Rattle.rv64_model.specs.Operands.{accessed, rd_of, stored_len}
 use Rattle.parts_model.specs.declared.limits.TheConstants.{WINDOW_START, SEGMENT_START}
 use Rattle.parts_model.specs.Numbered.{nth}
 use Rattle.set_store.specs.declared.item.Item.{Item}
-use Rattle.taint_spans.specs.Numbered.{IsSet, members_of}
+use Rattle.taint_spans.specs.Numbered.{IsSet}
 use Rattle.acts_model.specs.Moved.{Inside}
-use Rattle.acts_model.specs.Transfers.{Holds, Place, is_private, is_shared, place_at}
+use Rattle.acts_model.specs.Transfers.{Place, is_private, is_shared, place_at}
 use Rattle.lineage_model.specs.Flow.{At, Byte, StartRegister, StartSlot, StartMemory, Location, Memory, Prior, Register, Slot, offset, result_bytes, when}
 use Rattle.lineage_model.specs.Tracking.{EventByte, Tracked, alone_after, gather, items}
 use Rattle.taint_flow.specs.Gathered.{number_of}
 use Rattle.taint_flow.specs.Names.{loaded_len}
 use Rattle.taint_members.specs.declared.member.MemberSets.{MemberSets}
-use Rattle.taint_members.specs.declared.member.Shared.{Shared}
 use Rattle.taint_pages.specs.Rows.{byte_in}
-use Rattle.taint_steps.specs.Running.{StoresWindow}
+use Rattle.taint_state.specs.Events.{PutsSeen, sees}
 use Rattle.taint_state.specs.Goes.{AreApart, GoesBy, GoesIf, heard_after, hearing_of, hearings_of}
 use Rattle.taint_state.specs.Kept.{Kept, KeptHeard, KeptMember, KeptStart, heard_among, items_of, point_items, shown, shown_heard, shown_member, start_items}
-use Rattle.taint_state.specs.RunsShow.{RunsIn, RunsShow, is_same, kept_member, sees}
+use Rattle.taint_state.specs.RunsShow.{RunsIn, RunsShow, kept_member}
 use Rattle.taint_state.specs.Shown.{AreItems, IsPoint, IsRegisterByte, Shows, ShowsHeard, ShowsMember}
 use Rattle.taint_state.specs.Sound.{IsSound, IsSoundHeard, IsSoundMember, IsSoundStart}
 use Rattle.taint_state.specs.Steps.{IsWhole, holders_of, instr_inside}
 use Rattle.taint_state.proofs.Reach.{stored-few}
 use Rattle.taint_state.proofs.Results.{results-show}
+use Rattle.taint_state.proofs.Seeing.{holders-still, members-seen-by, sees-shows}
+use Rattle.taint_state.proofs.Stored.{StoresSegment, StoresWindow, segment-stored, window-stored}
 use Rattle.taint_state.proofs.Taken.{append-none, move, move-bytes, operands-show}
 use Rattle.taint_state.proofs.Written.{ByOffset, by-none, other-segment, other-window, segment-by, window-by}
 
@@ -46,38 +47,16 @@ and-none : {X : Type 0} (p b : Bool) (x : X) → p ≡ false → when (p && b) x
 and-none true b x e = absurd (cc)
 and-none false b x e = refl
 
-shared-of : (s : Option Shared) (made : ℕ) → option_map (λ (u : Shared). u.made) s ≡ Some made → (shared : Shared) × (s ≡ Some shared) × (shared.made ≡ made)
-shared-of None made e = absurd (cc)
-shared-of (Some shared) made e = (shared, refl, cc)
-
-pub same-made : (a b : Option ℕ) (made : ℕ) → is_same a b ≡ true → b ≡ Some made → a ≡ Some made
-same-made None b made s e = absurd (cc)
-same-made (Some k) None made s e = absurd (cc)
-same-made (Some k) (Some j) made s e = ap Some (eqb-true k j s) ∙ e
-
-apart-made : (a b : Option ℕ) (made : ℕ) → is_same a b ≡ false → b ≡ Some made → a ≢ Some made
-apart-made a b made s e = λ k. by_made (subst (λ o. is_same o b ≡ false) k (s))
-  where
-    by_made : is_same (Some made) b ≡ false → ⊥
-    by_made h = let same : is_same (Some made) (Some made) ≡ false = subst (λ o. is_same (Some made) o ≡ false) e h in eqb-false made made same refl
-
-sees-holds : (k other : KeptMember) → (sees k other).holds ≡ other.holds
-sees-holds k other = by_test (is_same k.holds.segment other.holds.segment)
-  where
-    by_test : (b : Bool) → (if b then record other { segment = k.segment } else other).holds ≡ other.holds
-    by_test true = refl
-    by_test false = refl
-
 module _ (pid : ℕ) (instr : Instr) (before : Cpu) (x y : Kept) (sound : IsSound x) (ran : RunsIn pid instr before x y) where
   abbrev pub was_kept : KeptMember
-  was_kept = kept_member ran.segments ran.member
+  was_kept = kept_member ran.memories ran.member
 
   abbrev pub is_kept : KeptMember
   is_kept = kept_member ran.written ran.changed
 
   -- the member afterwards, with what stays spelled out
   abbrev pub after_member : MemberSets
-  after_member = record ran.member { registers = ran.changed.registers; window = ran.changed.window }
+  after_member = record ran.member { registers = ran.changed.registers }
 
   abbrev pub after_kept : KeptMember
   after_kept = kept_member ran.written after_member
@@ -107,21 +86,14 @@ module _ (pid : ℕ) (instr : Instr) (before : Cpu) (x y : Kept) (sound : IsSoun
   items-same : (n : ℕ) → IsSet x.sets n → items_of y n ≡ items_of x n
   items-same n set = ran.stand.same n set
 
-  pub holds-at : (p : ℕ) → option_map (λ (k : KeptMember). k.holds) (nth y.members p) ≡ option_map (λ (k : KeptMember). k.holds) (nth x.members p)
-  holds-at p = by_test (p == pid) refl
-    where
-      holds : Option KeptMember → Option Holds
-      holds o = option_map (λ (k : KeptMember). k.holds) o
+  pub seen-after : PutsSeen pid after_kept x.members y.members
+  seen-after = subst (λ k. PutsSeen pid k x.members y.members) kept-after ran.members
 
-      by_member : (o : Option KeptMember) → holds (option_map (sees is_kept) o) ≡ holds o
-      by_member None = refl
-      by_member (Some other) = ap Some (sees-holds is_kept other)
+  pub stored-window : StoresWindow (accessed instr before) (take (stored_len instr) numbers) was_kept.window after_kept.window
+  stored-window = window-stored (accessed instr before) (take (stored_len instr) numbers) ran.member ran.memories ran.written ran.two ran.runs.memory
 
-      by_test : (b : Bool) → (p == pid) ≡ b → holds (nth y.members p) ≡ holds (nth x.members p)
-      by_test true e =
-          let is : p ≡ pid = eqb-true p pid e in
-          ap (λ q. holds (nth y.members q)) is ∙ ap holds ran.is ∙ ap (λ (k : KeptMember). Some k.holds) kept-after ∙ sym (ap holds ran.was) ∙ ap (λ q. holds (nth x.members q)) (sym is)
-      by_test false e = ap holds (ran.others p (eqb-false p pid e)) ∙ by_member (nth x.members p)
+  pub stored-segment : StoresSegment (accessed instr before) (take (stored_len instr) numbers) was_kept.holds.segment was_kept.segment after_kept.segment
+  stored-segment = segment-stored (accessed instr before) (take (stored_len instr) numbers) ran.member ran.memories ran.written ran.two ran.runs.memory
 
   pub own : IsSoundMember x.sets was_kept
   own = at-some (IsSoundMember x.sets) (nth x.members pid) was_kept ran.was (sound.members pid)
@@ -144,7 +116,7 @@ module _ (pid : ℕ) (instr : Instr) (before : Cpu) (x y : Kept) (sound : IsSoun
     result-shows i b =
         let takes = ran.runs.takes in
         results-show table pid instr place i (items None) t.locations x.sets y.sets (number_of takes.first takes.second takes.loaded) (slice_index numbers i)
-        (operands-show x sound pid ran.member ran.segments own t mine instr before y.sets numbers takes i b whole) (takes.results.bytes i b)
+        (operands-show x sound pid ran.member ran.memories own t mine instr before y.sets numbers takes i b whole) (takes.results.bytes i b)
 
     -- a byte that isn't written
     stays : (v u : ℕ) (location : Location) → v ≡ u → IsSet x.sets u → AreItems (items_of x u) (t.locations location) → AreItems (items_of y v) (gather (items None) t.locations (Prior location ∷ []))
@@ -162,27 +134,26 @@ module _ (pid : ℕ) (instr : Instr) (before : Cpu) (x y : Kept) (sound : IsSoun
     register-by true v u i location b e raw h = move (items_of y v) (items_of y (slice_index numbers i)) (gather (items None) t.locations (result_bytes table pid instr place i)) (ap (items_of y) e) (result-shows i b)
     register-by false v u i location b e raw h = stays v u location e raw h
 
-    -- the segment that the member holds
+    -- the window that the member holds
+    window-shows : (at : ℕ) → is_private at ≡ true → gathers (items_of y (slice_index after_kept.window (at - WINDOW_START))) (Memory was_kept.holds.window at)
+    window-shows at reached =
+        taken-by (offset place (stored_len instr) was_kept.holds.window at) (slice_index after_kept.window (at - WINDOW_START)) (slice_index was_kept.window (at - WINDOW_START)) (Memory was_kept.holds.window at)
+        (window-by numbers (stored_len instr) ran.runs.takes.results.len (stored-few instr) was_kept.holds (accessed instr before) at was_kept.window after_kept.window stored-window reached own.window_whole)
+        (own.window (at - WINDOW_START)) (mine.window at reached)
+
+    -- and its segment
     segment-shows : (made at : ℕ) → was_kept.holds.segment ≡ Some made → is_shared at ≡ true → gathers (items_of y (slice_index after_kept.segment (at - SEGMENT_START))) (Memory made at)
     segment-shows made at e reached =
-        let found = shared-of ran.member.segment made e in
-        let shared = found.0 in
-        let len = own.segment_whole made e in
-        subst (λ k. gathers (items_of y (slice_index after_kept.segment (at - SEGMENT_START))) (Memory k at)) found.2
-        (taken-by (offset place (stored_len instr) shared.made at) (slice_index after_kept.segment (at - SEGMENT_START)) (slice_index was_kept.segment (at - SEGMENT_START)) (Memory shared.made at)
-        (segment-by numbers (stored_len instr) ran.runs.takes.results.len (stored-few instr) ran.member after_member ran.segments ran.written refl (accessed instr before) shared at found.1 ran.runs.segment reached len)
-        (own.segment (at - SEGMENT_START))
-        (mine.segment shared.made at (ap (λ s. option_map (λ (u : Shared). u.made) s) found.1) reached))
+        taken-by (offset place (stored_len instr) made at) (slice_index after_kept.segment (at - SEGMENT_START)) (slice_index was_kept.segment (at - SEGMENT_START)) (Memory made at)
+        (segment-by numbers (stored_len instr) ran.runs.takes.results.len (stored-few instr) was_kept.holds (accessed instr before) made at was_kept.segment after_kept.segment e stored-segment reached (own.segment_whole made e))
+        (own.segment (at - SEGMENT_START)) (mine.segment made at e reached)
 
     -- the member that ran it
     runner : ShowsMember pid next (shown_member y after_kept)
     runner = record {
       registers = registers;
       slot = λ r i is. stays (byte_in ran.member.slot r i) (byte_in ran.member.slot r i) (Slot pid r i) refl (own.slot r i is) (mine.slot r i is);
-      window = λ at reached.
-          taken-by (offset place (stored_len instr) ran.member.made at) (slice_index ran.changed.window (at - WINDOW_START)) (slice_index ran.member.window (at - WINDOW_START)) (Memory ran.member.made at)
-          (window-by numbers (stored_len instr) ran.runs.takes.results.len (stored-few instr) ran.member after_member ran.segments ran.written refl (accessed instr before) at (subst (λ k. StoresWindow (accessed instr before) (take (stored_len instr) numbers) ran.member k) ran.runs.others ran.runs.window) reached own.window_whole)
-          (own.window (at - WINDOW_START)) (mine.window at reached);
+      window = window-shows;
       segment = segment-shows;
     } where
       registers : (r i : ℕ) → IsRegisterByte r i → gathers (items_of y (byte_in ran.changed.registers r i)) (Register pid r i)
@@ -216,59 +187,30 @@ module _ (pid : ℕ) (instr : Instr) (before : Cpu) (x y : Kept) (sound : IsSoun
       other-slot : (r i : ℕ) → IsRegisterByte r i → gathers (items_of y (byte_in other.slot r i)) (Slot q r i)
       other-slot r i is = stays (byte_in other.slot r i) (byte_in other.slot r i) (Slot q r i) refl (kept-sound.slot r i is) (theirs.slot r i is)
 
-      holds-of : (p : ℕ) (k : KeptMember) → nth x.members p ≡ Some k → holders_of (shown x) p ≡ Some k.holds
-      holds-of p k e = ap (λ o. option_map (λ m. m.holds) (option_map (shown_member x) o)) e
-
-      windows-apart : ran.member.made ≢ other.holds.window
-      windows-apart = λ same. apart (sym (lie.windows pid q was_kept.holds other.holds (holds-of pid was_kept ran.was) (holds-of q other there) same))
-
-      other-windows : (at : ℕ) → is_private at ≡ true → gathers (items_of y (slice_index other.window (at - WINDOW_START))) (Memory other.holds.window at)
-      other-windows at reached =
+      other-windows : other.holds.window ≢ was_kept.holds.window → (at : ℕ) → is_private at ≡ true → gathers (items_of y (slice_index other.window (at - WINDOW_START))) (Memory other.holds.window at)
+      other-windows differ at reached =
           let number = slice_index other.window (at - WINDOW_START) in
           taken-by (offset place (stored_len instr) other.holds.window at) number number (Memory other.holds.window at)
           (by-none numbers (offset place (stored_len instr) other.holds.window at) number number
-          (other-window numbers (stored_len instr) ran.runs.takes.results.len (stored-few instr) ran.member after_member ran.segments ran.written refl (accessed instr before) other.holds.window at windows-apart reached) refl)
+          (other-window numbers (stored_len instr) ran.runs.takes.results.len (stored-few instr) was_kept.holds (accessed instr before) other.holds.window at (λ e. differ (sym e)) reached) refl)
           (kept-sound.window (at - WINDOW_START)) (theirs.window at reached)
 
+      other-segments : (made at : ℕ) → other.holds.segment ≡ Some made → was_kept.holds.segment ≢ Some made → is_shared at ≡ true → gathers (items_of y (slice_index other.segment (at - SEGMENT_START))) (Memory made at)
+      other-segments made at held differ reached =
+          let number = slice_index other.segment (at - SEGMENT_START) in
+          taken-by (offset place (stored_len instr) made at) number number (Memory made at)
+          (by-none numbers (offset place (stored_len instr) made at) number number
+          (other-segment numbers (stored_len instr) ran.runs.takes.results.len (stored-few instr) was_kept.holds (accessed instr before) made at differ reached) refl)
+          (kept-sound.segment (at - SEGMENT_START)) (theirs.segment made at held reached)
+
       other-member : ShowsMember q next (shown_member y (sees after_kept other))
-      other-member = by_test (is_same was_kept.holds.segment other.holds.segment) refl
-        where
-          by_test : (b : Bool) → is_same was_kept.holds.segment other.holds.segment ≡ b → ShowsMember q next (shown_member y (if b then record other { segment = after_kept.segment } else other))
-          by_test true e = record {
-            registers = other-registers;
-            slot = other-slot;
-            window = other-windows;
-            segment = λ made at held reached. segment-shows made at (same-made was_kept.holds.segment other.holds.segment made e held) reached;
-          }
-          by_test false e = record {
-            registers = other-registers;
-            slot = other-slot;
-            window = other-windows;
-            segment = λ made at held reached.
-                let number = slice_index other.segment (at - SEGMENT_START) in
-                taken-by (offset place (stored_len instr) made at) number number (Memory made at)
-                (by-none numbers (offset place (stored_len instr) made at) number number
-                (other-segment numbers (stored_len instr) ran.runs.takes.results.len (stored-few instr) ran.member after_member ran.segments ran.written refl (accessed instr before) made at
-                (apart-made was_kept.holds.segment other.holds.segment made e held) reached) refl)
-                (kept-sound.segment (at - SEGMENT_START)) (theirs.segment made at held reached);
-          }
+      other-member = sees-shows y next q pid after_kept other runner other-registers other-slot other-windows other-segments
 
     members-show : (q : ℕ) → IfSome ((shown y).members q) (ShowsMember q next)
-    members-show q = by_test (q == pid) refl
+    members-show = members-seen-by y x next pid after_kept seen-after runner (λ q other apart there. other-member q apart other there (before-shows q other there))
       where
-        by_other : (apart : q ≢ pid) (o : Option KeptMember) → nth x.members q ≡ o → IfSome (option_map (shown_member x) o) (ShowsMember q t) → IfSome (option_map (shown_member y) (option_map (sees after_kept) o)) (ShowsMember q next)
-        by_other apart None e h = tt
-        by_other apart (Some other) e h = other-member q apart other e h
-
-        by_test : (b : Bool) → (q == pid) ≡ b → IfSome (option_map (shown_member y) (nth y.members q)) (ShowsMember q next)
-        by_test true e =
-            let is : q ≡ pid = eqb-true q pid e in
-            subst (λ p. IfSome (option_map (shown_member y) (nth y.members p)) (ShowsMember p next)) (sym is)
-            (subst (λ o. IfSome (option_map (shown_member y) o) (ShowsMember pid next)) (sym (ran.is ∙ ap Some kept-after)) runner)
-        by_test false e =
-            let apart = eqb-false q pid e in
-            subst (λ o. IfSome (option_map (shown_member y) o) (ShowsMember q next)) (sym (ran.others q apart ∙ ap (λ k. option_map (sees k) (nth x.members q)) kept-after))
-            (by_other apart (nth x.members q) refl (shows.members q))
+        before-shows : (q : ℕ) (other : KeptMember) → nth x.members q ≡ Some other → ShowsMember q t (shown_member x other)
+        before-shows q other there = subst (λ o. IfSome (option_map (shown_member x) o) (ShowsMember q t)) there (shows.members q)
 
     heard-shows : (event : ℕ) → IfSome ((shown y).heard event) (ShowsHeard event next)
     heard-shows event =
@@ -303,12 +245,8 @@ module _ (pid : ℕ) (instr : Instr) (before : Cpu) (x y : Kept) (sound : IsSoun
     heard = heard;
     shows = λ lie whole t shows. record { members = members-show lie whole t shows; heard = heard-shows lie whole t shows };
   } where
-    by_member : (k : Kept) (o : Option KeptMember) → option_map (λ m. m.holds) (option_map (shown_member k) o) ≡ option_map (λ (m : KeptMember). m.holds) o
-    by_member k None = refl
-    by_member k (Some m) = refl
-
     holders : (p : ℕ) → holders_of (shown y) p ≡ holders_of (shown x) p
-    holders p = by_member y (nth y.members p) ∙ holds-at p ∙ sym (by_member x (nth x.members p))
+    holders = holders-still x y pid was_kept after_kept ran.was seen-after refl
 
     by_heard : (o : Option KeptHeard) → option_map hearing_of (option_map (shown_heard y) o) ≡ option_map hearing_of (option_map (shown_heard x) o)
     by_heard None = refl

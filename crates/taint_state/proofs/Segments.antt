@@ -1,31 +1,23 @@
 -- A fresh segment.
-use Rattle.std.proofs.Common.{◌≡◌, ◌≢◌, ℕ, ◌==◌, ◌&&◌, cond, Bool, true, false, [], Some, None, refl, sym, ap, subst, ◌∙◌, ne_eqb}
+use Rattle.std.proofs.Common.{◌≡◌, ◌≢◌, ℕ, ◌==◌, ◌&&◌, cond, [], Some, None, refl, sym, ap, subst, ◌∙◌, ne_eqb}
 use Rattle.std.proofs.lemmas.Bool.{eq-eqb}
 use Rattle.acts_model.specs.Records.{event_len}
 use Rattle.acts_model.specs.Transfers.{Holds, Shares}
 use Rattle.lineage_model.specs.Flow.{Slot, Memory, or_else, when}
-use Rattle.taint_state.specs.Events.{is_one, plain_heard, shares_with}
+use Rattle.taint_state.specs.Events.{plain_heard}
 use Rattle.taint_state.specs.EventsShow.{SharesShow}
 use Rattle.taint_state.specs.Goes.{IsUnheldBy}
 use Rattle.taint_state.specs.Kept.{KeptMember, shown, shown_member}
 use Rattle.taint_state.specs.Shown.{ShowsMember}
 use Rattle.taint_state.specs.Steps.{holders_of, shared_holds}
 use Rattle.taint_state.proofs.Keeping.{sharers-sound, follows, good-empty, old-sound, plain-sound, shared-sound, zero-later}
-use Rattle.taint_state.proofs.Flows.{cleared, kept, one-true, same-member, row-cleared, shown-before, sound-before, then}
-use Rattle.taint_state.proofs.Received.{holders-one, members-shared, some-inj}
+use Rattle.taint_state.proofs.Flows.{cleared, kept, row-cleared, shown-before, sound-before, then}
+use Rattle.taint_state.proofs.Seeing.{holders-seen, members-seen, some-inj}
 use Rattle.taint_state.proofs.Goings.{empty-points, goes, held-before, self-test, setting, unheld-before}
 
 -- another memory
 pub not-made : (made : ℕ) (h : Holds) (m : ℕ) → IsUnheldBy made h → h.segment ≡ Some m → m ≢ made
 not-made made h m unheld held same = unheld.segment (held ∙ ap (λ (k : ℕ). Some k) same)
-
--- who doesn't hold the fresh segment keeps what it kept
-keeps-own : (new other : KeptMember) (made : ℕ) → new.holds.segment ≡ Some made → IsUnheldBy made other.holds → shares_with new other ≡ other
-keeps-own new other made has unheld = of (is_one other.holds.segment new.holds.segment) refl
-  where
-    of : (b : Bool) → is_one other.holds.segment new.holds.segment ≡ b → cond b (record other { segment = new.segment }) other ≡ other
-    of true e = absurd (unheld.segment (one-true other.holds.segment new.holds.segment e ∙ has))
-    of false e = refl
 
 pub shares-show : SharesShow
 shares-show x y pid number e before old new numbers sound empty to becomes =
@@ -34,13 +26,13 @@ shares-show x y pid number e before old new numbers sound empty to becomes =
     follows _ x y
     (sharers-sound x y pid old new heard sound becomes (shared-sound y.sets number old new (zero-later x y sound becomes.stays.sets) to (old-sound x y pid old sound becomes.stays.sets becomes.was)) (plain-sound y.sets number numbers (good-empty y.sets (zero-later x y sound becomes.stays.sets) (event_len e) numbers empty)))
     (goes x y pid number e before (Shares pid number) heard sound becomes.stays becomes.heard refl empty.len refl (λ h k. refl)
-    (λ p. holders-one x y pid old new heard becomes p ∙ ap (λ o. cond (p == pid) o (holders_of (shown x) p)) held)
+    (λ p. holders-seen x y pid new becomes.members p ∙ ap (λ o. cond (p == pid) o (holders_of (shown x) p)) held)
     (λ clear possible t shows.
     let s = setting x y pid number e before (Shares pid number) heard sound becomes.stays t shows in
     let had = shown-before s pid old becomes.was in
     let sets = sound-before s pid old becomes.was in
     let unheld = unheld-before x number pid old possible becomes.was in (
-      members-shared s pid old new heard becomes
+      members-seen s pid new becomes.members
           (subst (λ m. ShowsMember pid (then s) (shown_member y m)) (sym to.others) (record {
             registers = row-cleared s pid old.registers new.registers (λ b. or_else (when b []) None) refl refl (λ r i. ap (λ b. or_else (when (b && (r == 10)) []) None) (self-test pid)) to.result sets.registers had.registers;
             slot = λ r i is. kept s _ (Slot pid r i) (sets.slot r i is) (had.slot r i is) refl;
@@ -49,12 +41,11 @@ shares-show x y pid number e before old new numbers sound empty to becomes =
           }))
           (λ p other ne was.
           let apart = unheld-before x number p other possible was in
-          subst (λ m. ShowsMember p (then s) (shown_member y m)) (sym (keeps-own new other number (ap (λ (m : KeptMember). m.holds.segment) to.others) apart))
-          (same-member s p other (sound-before s p other was) (record {
+          record {
             registers = λ r i. ap (λ b. or_else (when (b && (r == 10)) []) None) (ne_eqb p pid ne);
             slot = λ r i. refl;
             window = λ at is. ap (λ b. when b []) (ne_eqb other.holds.window number apart.window);
             segment = λ made at has is. ap (λ b. when b []) (ne_eqb made number (not-made number other.holds made apart has));
-          }) (shown-before s p other was))),
+          }),
       empty-points s number (event_len e) numbers empty (λ k. refl),
     )))

@@ -17,12 +17,13 @@ use Rattle.taint_state.specs.Kept.{Kept, KeptMember, items_of, shown, shown_memb
 use Rattle.taint_state.specs.Shown.{AreItems, ShowsMember}
 use Rattle.taint_state.specs.Sound.{IsSoundMember}
 use Rattle.taint_state.specs.Steps.{IsWhole, holders_of}
-use Rattle.taint_state.proofs.Keeping.{becomes-sound, follows, good-received, old-sound, plain-sound, started-sound, zero-later}
-use Rattle.taint_state.proofs.Flows.{Setting, by-written, cleared, given, members-show, of-nothing, of-received, shown-before, sound-before}
-use Rattle.taint_state.proofs.Goings.{goes, held-before, holders-put, plain-points, self-test, setting}
+use Rattle.taint_state.proofs.Keeping.{sharers-sound, follows, good-received, old-sound, plain-sound, started-sound, zero-later}
+use Rattle.taint_state.proofs.Flows.{Setting, by-written, cleared, given, of-nothing, of-received, shown-before, sound-before}
+use Rattle.taint_state.proofs.Goings.{goes, held-before, plain-points, self-test, setting}
 use Rattle.taint_state.proofs.Reading.{of-read, private-bounds, reads}
 use Rattle.taint_state.proofs.Receiving.{item-items}
 use Rattle.taint_state.proofs.Received.{window-inside}
+use Rattle.taint_state.proofs.Seeing.{holders-seen, members-seen}
 use Rattle.taint_state.proofs.Segments.{not-made}
 
 -- which of so many it is
@@ -90,14 +91,14 @@ starts-show x y pid number e before load len block block_len old new numbers sou
     let place = place_of old.holds block block_len in
     let tr = Starts pid number load len place block_len in
     follows _ x y
-    (becomes-sound x y pid old (Some new) heard sound becomes (started-sound y.sets number load numbers block block_len old new (zero-later x y sound becomes.stays.sets) (good-received y.sets (zero-later x y sound becomes.stays.sets) number len numbers received) to (old-sound x y pid old sound becomes.stays.sets becomes.was)) (plain-sound y.sets number numbers (good-received y.sets (zero-later x y sound becomes.stays.sets) number len numbers received)))
+    (sharers-sound x y pid old new heard sound becomes (started-sound y.sets number load numbers block block_len old new (zero-later x y sound becomes.stays.sets) (good-received y.sets (zero-later x y sound becomes.stays.sets) number len numbers received) to (old-sound x y pid old sound becomes.stays.sets becomes.was)) (plain-sound y.sets number numbers (good-received y.sets (zero-later x y sound becomes.stays.sets) number len numbers received)))
     (goes x y pid number e before tr heard sound becomes.stays becomes.heard refl (received.len ∙ count) refl (λ h k. refl)
-    (λ p. holders-put x y pid old (Some new) heard becomes p ∙ ap (λ (h : Holds). cond (p == pid) (Some h) (holders_of (shown x) p)) to.holds)
+    (λ p. holders-seen x y pid new becomes.members p ∙ ap (λ (h : Holds). cond (p == pid) (Some h) (holders_of (shown x) p)) to.holds)
     (λ clear possible t shows.
     let s = setting x y pid number e before tr heard sound becomes.stays t shows in
     let had = shown-before s pid old becomes.was in
     let sets = sound-before s pid old becomes.was in (
-      members-show s pid (Some new) becomes.members
+      members-seen s pid new becomes.members
           (record {
             registers = λ r i is. cleared s _ (Register pid r i) (to.registers r i) (ap (λ b. when b []) (self-test pid));
             slot = λ r i is. cleared s _ (Slot pid r i) (to.slot r i) (ap (λ b. when b []) (self-test pid));

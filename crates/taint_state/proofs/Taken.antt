@@ -13,9 +13,9 @@ use Rattle.lineage_model.specs.Flow.{Memory, Register, bytes_at, operand_bytes, 
 use Rattle.lineage_model.specs.Tracking.{EventByte, Tracked}
 use Rattle.taint_flow.specs.Gathered.{number_of}
 use Rattle.taint_flow.specs.Names.{loaded_len}
-use Rattle.taint_members.specs.Access.{Segments, held_numbers, number_at}
+use Rattle.taint_members.specs.Access.{Memories, held_numbers, number_at, window_numbers}
 use Rattle.taint_members.specs.declared.member.MemberSets.{MemberSets}
-use Rattle.taint_members.specs.declared.member.Shared.{Shared}
+use Rattle.taint_members.specs.declared.member.Held.{Held}
 use Rattle.taint_pages.specs.Rows.{byte_in}
 use Rattle.taint_steps.specs.Taking.{IsRead, IsRegister, Takes}
 use Rattle.taint_state.specs.Kept.{Kept, items_of, shown_member}
@@ -55,10 +55,10 @@ move-bytes a b c e h = subst (λ l. AreItems a l) (sym e) h
 none-items : AreItems [] []
 none-items = λ item. (λ h. h, λ h. h)
 
-module _ (x : Kept) (sound : IsSound x) (pid : ℕ) (m : MemberSets) (segments : Segments) (own : IsSoundMember x.sets (kept_member segments m)) (t : Tracked EventByte)
-    (shows : ShowsMember pid t (shown_member x (kept_member segments m))) where
+module _ (x : Kept) (sound : IsSound x) (pid : ℕ) (m : MemberSets) (memories : Memories) (own : IsSoundMember x.sets (kept_member memories m)) (t : Tracked EventByte)
+    (shows : ShowsMember pid t (shown_member x (kept_member memories m))) where
   abbrev holds : Holds
-  holds = (kept_member segments m).holds
+  holds = (kept_member memories m).holds
 
   zero-shows : (n : ℕ) → n ≡ 0 → AreItems (items_of x n) []
   zero-shows n e = move (items_of x n) [] [] (ap (items_of x) e ∙ sound.empty) none-items
@@ -75,14 +75,14 @@ module _ (x : Kept) (sound : IsSound x) (pid : ℕ) (m : MemberSets) (segments :
   abbrev at_place : ℕ → ℕ → Place
   at_place a made = record { made = made; at = a }
 
-  abbrev memory_by : ℕ → Bool → Bool → Option Shared → Option Place
-  memory_by a b c s = option_map (at_place a) (if b then Some m.made else if c then option_map (λ (shared : Shared). shared.made) s else None)
+  abbrev memory_by : ℕ → Bool → Bool → Option Held → Option Place
+  memory_by a b c s = option_map (at_place a) (if b then Some m.window.made else if c then option_map (λ (shared : Held). shared.made) s else None)
 
-  abbrev number_by : ℕ → ℕ → Bool → Bool → Option Shared → ℕ
-  number_by a k b c s = if b then slice_index m.window (a - WINDOW_START + k) else if c then slice_index (held_numbers s segments) (a - SEGMENT_START + k) else 0
+  abbrev number_by : ℕ → ℕ → Bool → Bool → Option Held → ℕ
+  number_by a k b c s = if b then slice_index (window_numbers m memories) (a - WINDOW_START + k) else if c then slice_index (held_numbers s memories) (a - SEGMENT_START + k) else 0
 
   -- byte k from an address on
-  memory-shows : (a len k : ℕ) → IsWhole (place_at holds a) len → k < len → AreItems (items_of x (number_at m segments a k)) (flat_map t.locations (bytes_at (place_at holds a) k))
+  memory-shows : (a len k : ℕ) → IsWhole (place_at holds a) len → k < len → AreItems (items_of x (number_at m memories a k)) (flat_map t.locations (bytes_at (place_at holds a) k))
   memory-shows a len k whole h = by_place (is_private a) (is_shared a) m.segment refl refl refl whole
     where
       one-byte : (n j : ℕ) (made : ℕ) → n ≡ j → AreItems (items_of x j) (t.locations (Memory made (a + k))) → AreItems (items_of x n) (t.locations (Memory made (a + k)) ++ [])
@@ -90,30 +90,30 @@ module _ (x : Kept) (sound : IsSound x) (pid : ℕ) (m : MemberSets) (segments :
           move-bytes (items_of x n) (t.locations (Memory made (a + k)) ++ []) (t.locations (Memory made (a + k))) (append-none (t.locations (Memory made (a + k))))
           (move (items_of x n) (items_of x j) (t.locations (Memory made (a + k))) (ap (items_of x) e) s)
 
-      by_place : (b c : Bool) (s : Option Shared) → is_private a ≡ b → is_shared a ≡ c → m.segment ≡ s → IsWhole (memory_by a b c s) len
+      by_place : (b c : Bool) (s : Option Held) → is_private a ≡ b → is_shared a ≡ c → m.segment ≡ s → IsWhole (memory_by a b c s) len
           → AreItems (items_of x (number_by a k b c s)) (flat_map t.locations (bytes_at (memory_by a b c s) k))
       by_place true c s p q e whole =
           let range = private-range a p in
-          one-byte (slice_index m.window (a - WINDOW_START + k)) (slice_index m.window (a + k - WINDOW_START)) m.made (ap (slice_index m.window) (omega arith))
+          one-byte (slice_index (window_numbers m memories) (a - WINDOW_START + k)) (slice_index (window_numbers m memories) (a + k - WINDOW_START)) m.window.made (ap (slice_index (window_numbers m memories)) (omega arith))
           (shows.window (a + k) (true-is (is_private (a + k)) ((whole k h).0 ∙ p)))
       by_place false true None p q e whole = zero-shows (slice_index [] (a - SEGMENT_START + k)) refl
       by_place false true (Some shared) p q e whole =
           let range = shared-range a q in
-          let numbers = held_numbers (Some shared) segments in
+          let numbers = held_numbers (Some shared) memories in
           one-byte (slice_index numbers (a - SEGMENT_START + k)) (slice_index numbers (a + k - SEGMENT_START)) shared.made (ap (slice_index numbers) (omega arith))
-          (subst (λ v. AreItems (items_of x (slice_index (held_numbers v segments) (a + k - SEGMENT_START))) (t.locations (Memory shared.made (a + k)))) e
-          (shows.segment shared.made (a + k) (ap (λ v. option_map (λ (u : Shared). u.made) v) e) (true-is (is_shared (a + k)) ((whole k h).1 ∙ q))))
+          (subst (λ v. AreItems (items_of x (slice_index (held_numbers v memories) (a + k - SEGMENT_START))) (t.locations (Memory shared.made (a + k)))) e
+          (shows.segment shared.made (a + k) (ap (λ v. option_map (λ (u : Held). u.made) v) e) (true-is (is_shared (a + k)) ((whole k h).1 ∙ q))))
       by_place false false s p q e whole = zero-shows 0 refl
 
-  read-shows : (acc : Option ℕ) (len k : ℕ) (raw : List ℕ) → IsRead acc len m segments raw → IsWhole (option_and_then (place_at holds) acc) len → k < len
+  read-shows : (acc : Option ℕ) (len k : ℕ) (raw : List ℕ) → IsRead acc len m memories raw → IsWhole (option_and_then (place_at holds) acc) len → k < len
       → AreItems (items_of x (slice_index raw k)) (flat_map t.locations (bytes_at (option_and_then (place_at holds) acc) k))
   read-shows None len k raw read whole h = zero-shows (slice_index raw k) (read.zeros k (omega arith))
   read-shows (Some a) len k raw read whole h =
       let place = place_at holds a in
-      move (items_of x (slice_index raw k)) (items_of x (number_at m segments a k)) (flat_map t.locations (bytes_at place k)) (ap (items_of x) (read.bytes k h)) (memory-shows a len k whole h)
+      move (items_of x (slice_index raw k)) (items_of x (number_at m memories a k)) (flat_map t.locations (bytes_at place k)) (ap (items_of x) (read.bytes k h)) (memory-shows a len k whole h)
 
   -- what each operand's number shows
-  pub operands-show : (instr : Instr) (before : Cpu) (new : Numbered) (numbers : List ℕ) (takes : Takes x.sets new x.linkage instr before m segments numbers) (i : ℕ)
+  pub operands-show : (instr : Instr) (before : Cpu) (new : Numbered) (numbers : List ℕ) (takes : Takes x.sets new x.linkage instr before m memories numbers) (i : ℕ)
       → i < 8 → IsWhole (option_and_then (place_at holds) (accessed instr before)) (loaded_len instr)
       → OperandsShow x.sets (number_of takes.first takes.second takes.loaded) t.locations pid instr (option_and_then (place_at holds) (accessed instr before)) (operands x.linkage instr i)
   operands-show instr before new numbers takes i b whole operand c =

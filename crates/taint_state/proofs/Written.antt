@@ -6,12 +6,9 @@ use Rattle.parts_model.specs.declared.limits.TheConstants.{WINDOW_START, SEGMENT
 use Rattle.acts_model.specs.Moved.{within}
 use Rattle.acts_model.specs.Transfers.{Holds, Place, is_private, is_shared, place_at}
 use Rattle.lineage_model.specs.Flow.{offset}
-use Rattle.taint_members.specs.Access.{ByTest, Segments, WritesHeld, WritesKey, held_numbers}
-use Rattle.taint_members.specs.declared.member.MemberSets.{MemberSets}
-use Rattle.taint_members.specs.declared.member.Shared.{Shared}
+use Rattle.taint_members.specs.Access.{ByTest}
 use Rattle.taint_pages.specs.Pages.{Puts}
-use Rattle.taint_steps.specs.Running.{StoresSegment, StoresWindow}
-use Rattle.taint_state.specs.RunsShow.{kept_member}
+use Rattle.taint_state.proofs.Stored.{PutsSegment, StoresSegment, StoresWindow}
 use Rattle.taint_state.proofs.Taken.{private-range, shared-range}
 
 -- a byte's number after a store: that of byte k of what is stored, or what it was
@@ -112,67 +109,56 @@ puts-by numbers start a len at old new eight few from above inside puts = by_tes
         let low = leb-false a at p in
         puts.kept (at - start) (inl (omega arith))
 
-module _ (numbers : List ℕ) (len : ℕ) (eight : length numbers ≡ 8) (few : len ≤ 8) (m n : MemberSets) (segments written : Segments) (same : n.segment ≡ m.segment) where
-  abbrev holds : Holds
-  holds = (kept_member segments m).holds
-
+module _ (numbers : List ℕ) (len : ℕ) (eight : length numbers ≡ 8) (few : len ≤ 8) (holds : Holds) where
   -- the member's own window
-  pub window-by : (acc : Option ℕ) (at : ℕ) → StoresWindow acc (take len numbers) m n → is_private at ≡ true → length m.window ≡ 262144
-      → ByOffset numbers (offset (option_and_then (place_at holds) acc) len m.made at) (slice_index n.window (at - WINDOW_START)) (slice_index m.window (at - WINDOW_START))
-  window-by None at stores inside whole = ap (λ w. slice_index w (at - WINDOW_START)) stores
-  window-by (Some a) at stores inside whole =
-      subst (λ o. ByOffset numbers o (slice_index n.window (at - WINDOW_START)) (slice_index m.window (at - WINDOW_START))) (sym (private-offset holds a len few m.made at inside))
-      (by_test (is_private a) (m.made == m.made) refl refl stores)
+  pub window-by : (acc : Option ℕ) (at : ℕ) (old new : List ℕ) → StoresWindow acc (take len numbers) old new → is_private at ≡ true → length old ≡ 262144
+      → ByOffset numbers (offset (option_and_then (place_at holds) acc) len holds.window at) (slice_index new (at - WINDOW_START)) (slice_index old (at - WINDOW_START))
+  window-by None at old new stores inside whole = ap (λ w. slice_index w (at - WINDOW_START)) stores
+  window-by (Some a) at old new stores inside whole =
+      subst (λ o. ByOffset numbers o (slice_index new (at - WINDOW_START)) (slice_index old (at - WINDOW_START))) (sym (private-offset holds a len few holds.window at inside))
+      (by_test (is_private a) (holds.window == holds.window) refl refl stores)
     where
-      by_test : (b c : Bool) → is_private a ≡ b → (m.made == m.made) ≡ c → ByTest b (Puts (a - WINDOW_START) (take len numbers) m.window n.window) (n.window ≡ m.window)
-          → ByOffset numbers (if b then (if c then within a len at else None) else None) (slice_index n.window (at - WINDOW_START)) (slice_index m.window (at - WINDOW_START))
+      by_test : (b c : Bool) → is_private a ≡ b → (holds.window == holds.window) ≡ c → ByTest b (Puts (a - WINDOW_START) (take len numbers) old new) (new ≡ old)
+          → ByOffset numbers (if b then (if c then within a len at else None) else None) (slice_index new (at - WINDOW_START)) (slice_index old (at - WINDOW_START))
       by_test true true p q s =
           let here = private-range a p in
           let there = private-range at inside in
-          puts-by numbers WINDOW_START a len at m.window n.window eight few here.0 there.0 (omega arith) s
-      by_test true false p q s = absurd (eqb-false m.made m.made q refl)
+          puts-by numbers WINDOW_START a len at old new eight few here.0 there.0 (omega arith) s
+      by_test true false p q s = absurd (eqb-false holds.window holds.window q refl)
       by_test false c p q s = ap (λ w. slice_index w (at - WINDOW_START)) s
 
   -- the segment that it holds
-  pub segment-by : (acc : Option ℕ) (shared : Shared) (at : ℕ) → m.segment ≡ Some shared → StoresSegment acc (take len numbers) m.segment segments written → is_shared at ≡ true
-      → length (held_numbers m.segment segments) ≡ 65536
-      → ByOffset numbers (offset (option_and_then (place_at holds) acc) len shared.made at) (slice_index (held_numbers n.segment written) (at - SEGMENT_START)) (slice_index (held_numbers m.segment segments) (at - SEGMENT_START))
-  segment-by None shared at e stores inside whole = ap (λ s. slice_index (held_numbers s written) (at - SEGMENT_START)) same ∙ ap (λ w. slice_index (held_numbers m.segment w) (at - SEGMENT_START)) stores
-  segment-by (Some a) shared at e stores inside whole =
-      subst (λ s. ByOffset numbers (offset (place_at holds a) len shared.made at) (slice_index (held_numbers s written) (at - SEGMENT_START)) (slice_index (held_numbers m.segment segments) (at - SEGMENT_START))) (sym same)
-      (subst (λ o. ByOffset numbers o (slice_index (held_numbers m.segment written) (at - SEGMENT_START)) (slice_index (held_numbers m.segment segments) (at - SEGMENT_START))) (sym (shared-offset holds a len few shared.made at inside))
-      (by_held m.segment e stores whole))
+  pub segment-by : (acc : Option ℕ) (made at : ℕ) (old new : List ℕ) → holds.segment ≡ Some made → StoresSegment acc (take len numbers) holds.segment old new → is_shared at ≡ true
+      → length old ≡ 65536
+      → ByOffset numbers (offset (option_and_then (place_at holds) acc) len made at) (slice_index new (at - SEGMENT_START)) (slice_index old (at - SEGMENT_START))
+  segment-by None made at old new e stores inside whole = ap (λ w. slice_index w (at - SEGMENT_START)) stores
+  segment-by (Some a) made at old new e stores inside whole =
+      subst (λ o. ByOffset numbers o (slice_index new (at - SEGMENT_START)) (slice_index old (at - SEGMENT_START))) (sym (shared-offset holds a len few made at inside))
+      (subst (λ s. ByOffset numbers (if is_private a then None else if is_shared a then offset (option_map (at_made holds a len few) s) len made at else None) (slice_index new (at - SEGMENT_START)) (slice_index old (at - SEGMENT_START))) (sym e)
+      (by_test (is_private a) (is_shared a) (made == made) refl refl refl (subst (λ s. PutsSegment a (take len numbers) s old new) e stores)))
     where
-      by_test : (o : Shared) (b c d : Bool) → is_private a ≡ b → is_shared a ≡ c → (o.made == shared.made) ≡ d → o.made ≡ shared.made
-          → ByTest c (WritesKey o.key (a - SEGMENT_START) (take len numbers) segments written) (written ≡ segments)
-          → length (held_numbers (Some o) segments) ≡ 65536
-          → ByOffset numbers (if b then None else if c then (if d then within a len at else None) else None) (slice_index (held_numbers (Some o) written) (at - SEGMENT_START)) (slice_index (held_numbers (Some o) segments) (at - SEGMENT_START))
-      by_test o true true d p q z y s w =
+      by_test : (b c d : Bool) → is_private a ≡ b → is_shared a ≡ c → (made == made) ≡ d
+          → ByTest c (Puts (a - SEGMENT_START) (take len numbers) old new) (new ≡ old)
+          → ByOffset numbers (if b then None else if c then (if d then within a len at else None) else None) (slice_index new (at - SEGMENT_START)) (slice_index old (at - SEGMENT_START))
+      by_test true true d p q z s =
           let here = private-range a p in
           let other = shared-range a q in
           absurd (omega arith)
-      by_test o true false d p q z y s w = ap (λ k. slice_index (held_numbers (Some o) k) (at - SEGMENT_START)) s
-      by_test o false true true p q z y s w =
+      by_test true false d p q z s = ap (λ k. slice_index k (at - SEGMENT_START)) s
+      by_test false true true p q z s =
           let here = shared-range a q in
           let there = shared-range at inside in
-          puts-by numbers SEGMENT_START a len at (held_numbers (Some o) segments) (held_numbers (Some o) written) eight few here.0 there.0 (omega arith) s.one
-      by_test o false true false p q z y s w = absurd (eqb-false o.made shared.made z y)
-      by_test o false false d p q z y s w = ap (λ k. slice_index (held_numbers (Some o) k) (at - SEGMENT_START)) s
-
-      by_held : (held : Option Shared) → held ≡ Some shared → ByTest (is_shared a) (WritesHeld a (take len numbers) held segments written) (written ≡ segments)
-          → length (held_numbers held segments) ≡ 65536
-          → ByOffset numbers (if is_private a then None else if is_shared a then offset (option_map (at_made holds a len few) (option_map (λ (u : Shared). u.made) held)) len shared.made at else None)
-          (slice_index (held_numbers held written) (at - SEGMENT_START)) (slice_index (held_numbers held segments) (at - SEGMENT_START))
-      by_held None k s w = absurd (cc)
-      by_held (Some o) k s w = let is : o ≡ shared = cc in by_test o (is_private a) (is_shared a) (o.made == shared.made) refl refl refl (ap (λ (u : Shared). u.made) is) s w
+          puts-by numbers SEGMENT_START a len at old new eight few here.0 there.0 (omega arith) s
+      by_test false true false p q z s = absurd (eqb-false made made z refl)
+      by_test false false d p q z s = ap (λ k. slice_index k (at - SEGMENT_START)) s
 
   -- another window isn't written
-  pub other-window : (acc : Option ℕ) (made at : ℕ) → m.made ≢ made → is_private at ≡ true → offset (option_and_then (place_at holds) acc) len made at ≡ None
+  pub other-window : (acc : Option ℕ) (made at : ℕ) → holds.window ≢ made → is_private at ≡ true → offset (option_and_then (place_at holds) acc) len made at ≡ None
   other-window None made at apart inside = refl
-  other-window (Some a) made at apart inside = private-offset holds a len few made at inside ∙ by_test (is_private a) (m.made == made) refl
+  other-window (Some a) made at apart inside = private-offset holds a len few made at inside ∙ by_test (is_private a) (holds.window == made) refl
     where
-      by_test : (b c : Bool) → (m.made == made) ≡ c → (if b then (if c then within a len at else None) else None) ≡ None
-      by_test true true e = absurd (apart (eqb-true m.made made e))
+      by_test : (b c : Bool) → (holds.window == made) ≡ c → (if b then (if c then within a len at else None) else None) ≡ None
+      by_test true true e = absurd (apart (eqb-true holds.window made e))
       by_test true false e = refl
       by_test false c e = refl
 

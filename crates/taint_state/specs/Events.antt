@@ -1,5 +1,5 @@
 -- How what is kept changes by an event of a member.
-use Rattle.std.specs.Prelude.{◌≡◌, ◌≢◌, ◌⊎◌, ℕ, ◌+◌, ◌-◌, ◌==◌, Bool, false, if◌then◌else◌, List, [], length, slice_index, Option, Some, None, option_map}
+use Rattle.std.specs.Prelude.{◌≡◌, ◌≢◌, ℕ, ◌+◌, ◌-◌, ◌==◌, Bool, false, if◌then◌else◌, List, [], length, slice_index, Option, Some, None, option_map}
 use Rattle.arn_base.specs.declared.machine.Cpu.{Cpu}
 use Rattle.arn_base.specs.declared.records.Record.{Record}
 use Rattle.parts_model.specs.declared.limits.TheConstants.{SEGMENT_LEN, SEGMENT_START, WINDOW_START}
@@ -30,6 +30,24 @@ pub record Hears (heard : KeptHeard) (old new : List KeptHeard) : Type 0 where
 pub record PutsMember (pid : ℕ) (m : Option KeptMember) (old new : List (Option KeptMember)) : Type 0 where
   pub one : nth new pid ≡ m
   pub others : (p : ℕ) → p ≢ pid → nth new p ≡ nth old p
+
+-- both hold one segment
+abbrev pub is_one : Option ℕ → Option ℕ → Bool
+is_one (Some made) (Some other) = made == other
+is_one held other = false
+
+-- who holds a memory of a member keeps of it what that member keeps
+abbrev pub sees : KeptMember → KeptMember → KeptMember
+sees new m =
+    record m {
+      window = if m.holds.window == new.holds.window then new.window else m.window;
+      segment = if is_one m.holds.segment new.holds.segment then new.segment else m.segment;
+    }
+
+-- one member is this, and all others are as before, but for what they see of its memories
+pub record PutsSeen (pid : ℕ) (m : KeptMember) (old new : List (Option KeptMember)) : Type 0 where
+  pub one : nth new pid ≡ Some m
+  pub others : (p : ℕ) → p ≢ pid → nth new p ≡ option_map (sees m) (nth old p)
 
 -- an event whose bytes have these numbers
 abbrev pub plain_heard : ℕ → List ℕ → KeptHeard
@@ -86,7 +104,7 @@ pub record BecomesTwo (pid child : ℕ) (old new kid : KeptMember) (event : Kept
   pub stays : Stays x y
   pub parent : pid ≢ child → nth y.members pid ≡ Some new
   pub begins : nth y.members child ≡ Some kid
-  pub others : (p : ℕ) → p ≢ pid → p ≢ child → nth y.members p ≡ nth x.members p
+  pub others : (p : ℕ) → p ≢ pid → p ≢ child → nth y.members p ≡ option_map (sees kid) (nth x.members p)
   pub heard : Hears event x.heard y.heard
 
 -- the numbers of a segment that may be held are others, from a place on
@@ -101,21 +119,11 @@ pub record ReceivesTo (at : ℕ) (numbers : List ℕ) (old new : KeptMember) : T
   pub segment : ByTest (is_shared at) (WritesHeld (at - SEGMENT_START) numbers old.holds.segment old.segment new.segment) (new.segment ≡ old.segment)
   pub others : new ≡ record old { registers = new.registers; window = new.window; segment = new.segment }
 
--- both hold one segment
-abbrev pub is_one : Option ℕ → Option ℕ → Bool
-is_one (Some made) (Some other) = made == other
-is_one held other = false
-
--- who holds a member's segment keeps of it what that member keeps
-abbrev pub shares_with : KeptMember → KeptMember → KeptMember
-shares_with new m = if is_one m.holds.segment new.holds.segment then record m { segment = new.segment } else m
-
--- a live member becomes another, of whose segment the others keep the same
+-- a live member becomes another, of whose memories the others keep the same
 pub record BecomesShared (pid : ℕ) (old new : KeptMember) (event : KeptHeard) (x y : Kept) : Type 0 where
   pub was : nth x.members pid ≡ Some old
   pub stays : Stays x y
-  pub one : nth y.members pid ≡ Some new
-  pub others : (p : ℕ) → p ≢ pid → nth y.members p ≡ option_map (shares_with new) (nth x.members p)
+  pub members : PutsSeen pid new x.members y.members
   pub heard : Hears event x.heard y.heard
 
 -- the number of byte k from an address on, in the memory in which the address lies
@@ -144,7 +152,7 @@ pub record Begins (pid event : ℕ) (new : KeptMember) (x y : Kept) : Type 0 whe
   pub linkage : y.linkage ≡ x.linkage
   pub sets : StandAsBefore x.sets y.sets
   pub heard : (e : ℕ) → heard_among y.heard e ≡ heard_among x.heard e
-  pub members : PutsMember pid (Some new) x.members y.members
+  pub members : PutsSeen pid new x.members y.members
 
 -- a step of a member by an event
 abbrev pub event_by_member : ℕ → Cpu → Transfer → ℕ → Record → Inside

@@ -98,7 +98,7 @@ abbrev pub StartsShow : Type 0
 StartsShow =
     (x y : Kept) (pid event : ℕ) (e : Record) (before : Cpu) (load len block block_len : ℕ) (old new : KeptMember) (numbers : List ℕ)
     → IsSound x → len ≡ event_len e → AreReceived y.sets event len numbers → StartsTo event load numbers block block_len old new
-    → Becomes pid old (Some new) (plain_heard event numbers) x y
+    → BecomesShared pid old new (plain_heard event numbers) x y
     → Follows (event_by_member pid before (Starts pid event load len (place_of old.holds block block_len) block_len) event e) x y
 
 -- a member begins without a parent

@@ -52,9 +52,8 @@ heard_after inside heard e = heard_by inside.event where
   heard_by None = heard e
   heard_by (Some event) = heard_at inside.transfer event heard e
 
--- No two live members have one window, and no window is a segment.
+-- No window of a live member is a segment of one.
 pub record AreApart (h : Holders) : Type 0 where
-  pub windows : (p q : ℕ) (a b : Holds) → h p ≡ Some a → h q ≡ Some b → a.window ≡ b.window → p ≡ q
   pub kinds : (p q : ℕ) (a b : Holds) → h p ≡ Some a → h q ≡ Some b → b.segment ≢ Some a.window
 
 -- What a machine's steps keep: a memory that is made is new, so is a child and the event by which a group begins, and what is read lies

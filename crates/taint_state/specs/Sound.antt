@@ -1,5 +1,5 @@
 -- What holds of what is kept.
-use Rattle.std.specs.Prelude.{◌≡◌, ℕ, ◌<◌, List, [], length, slice_index, Some, None, IfSome}
+use Rattle.std.specs.Prelude.{◌≡◌, ℕ, List, [], length, slice_index, Some, None, IfSome}
 use Rattle.parts_model.specs.Numbered.{nth}
 use Rattle.parts_model.specs.declared.limits.TheConstants.{SEGMENT_LEN, WINDOW_LEN}
 use Rattle.taint_spans.specs.Numbered.{IsSet, Numbered, members_of}

@@ -12,24 +12,21 @@ use Rattle.taint_flow.specs.Gathered.{AreNumbers, number_of}
 use Rattle.taint_flow.specs.Moving.{MovesRegister}
 use Rattle.taint_flow.specs.Names.{loaded_len}
 use Rattle.taint_flow.specs.Results.{AreResults}
-use Rattle.taint_members.specs.Access.{Segments}
+use Rattle.taint_members.specs.Access.{Memories}
 use Rattle.taint_members.specs.declared.member.MemberSets.{MemberSets}
 use Rattle.taint_pages.specs.Rows.{ClearsBytes, CopiesBytes, byte_in}
-use Rattle.taint_steps.specs.Running.{Runs, StoresSegment, StoresWindow, WritesRegister}
+use Rattle.taint_steps.specs.Running.{Runs, Stores, WritesRegister}
 use Rattle.taint_steps.specs.Taking.{AreSetsIn, IsRead, IsRegister, no_bytes}
 use Rattle.taint_steps.proofs.NothingLoaded.{first-none, nothing}
 use Rattle.taint_steps.proofs.Whole.{register-numbers}
 
-no-window : (at : Option ℕ) (numbers : List ℕ) (m n : MemberSets) → at ≡ None → n.window ≡ m.window → StoresWindow at numbers m n
-no-window at numbers m n e same = subst (λ o. StoresWindow o numbers m n) (sym e) same
+no-memory : (at : Option ℕ) (numbers : List ℕ) (m : MemberSets) (memories : Memories) → at ≡ None → Stores at numbers m memories memories
+no-memory at numbers m memories e = subst (λ o. Stores o numbers m memories memories) (sym e) refl
 
-no-segment : (at : Option ℕ) (numbers : List ℕ) (m : MemberSets) (segments : Segments) → at ≡ None → StoresSegment at numbers m.segment segments segments
-no-segment at numbers m segments e = subst (λ o. StoresSegment o numbers m.segment segments segments) (sym e) refl
-
-module _ (sets : Numbered) (linkage : Linkage) (instr : Instr) (before : Cpu) (m : MemberSets) (row : List ℕ) (segments : Segments) (first second numbers : List ℕ) (apart : accessed instr before ≡ None)
+module _ (sets : Numbered) (linkage : Linkage) (instr : Instr) (before : Cpu) (m : MemberSets) (row : List ℕ) (memories : Memories) (first second numbers : List ℕ) (apart : accessed instr before ≡ None)
     (of_first : IsRegister m.registers (rs1_of instr) first) (of_second : IsRegister m.registers (rs2_of instr) second)
     (results : AreResults sets sets (number_of first second nothing) (operands linkage instr) numbers) (writes : WritesRegister (rd_of instr) numbers m.registers row) where
-  pub apart-runs : Runs linkage instr before m (record m { registers = row }) segments segments sets sets
+  pub apart-runs : Runs linkage instr before m (record m { registers = row }) memories memories sets sets
   apart-runs = record {
     numbers = numbers;
     takes = record {
@@ -38,12 +35,11 @@ module _ (sets : Numbered) (linkage : Linkage) (instr : Instr) (before : Cpu) (m
       loaded = nothing;
       of_first = of_first;
       of_second = of_second;
-      read = subst (λ o. IsRead o (loaded_len instr) m segments nothing) (sym apart) (first-none no_bytes);
+      read = subst (λ o. IsRead o (loaded_len instr) m memories nothing) (sym apart) (first-none no_bytes);
       results = results;
     };
     register = writes;
-    window = no-window (accessed instr before) (take (stored_len instr) numbers) m (record m { registers = row }) apart refl;
-    segment = no-segment (accessed instr before) (take (stored_len instr) numbers) m segments apart;
+    memory = no-memory (accessed instr before) (take (stored_len instr) numbers) m memories apart;
     others = refl;
   }
 
@@ -72,7 +68,7 @@ copied : (old new first : List ℕ) (from to : ℕ) → 0 < to → IsRegister ol
 copied old new first zero to above is copies clears r i h = clears refl r i h ∙ written r to 0 (slice_index first i) (byte_in old r i) above (sym (is.bytes i h))
 copied old new first (suc from) to above is copies clears r i h = copies r i h ∙ written r to (byte_in old (suc from) i) (slice_index first i) (byte_in old r i) above (sym (is.1.bytes i h))
 
-module _ (sets : Numbered) (linkage : Linkage) (instr : Instr) (before : Cpu) (m : MemberSets) (row : List ℕ) (segments : Segments) (from to : ℕ) (first second : List ℕ)
+module _ (sets : Numbered) (linkage : Linkage) (instr : Instr) (before : Cpu) (m : MemberSets) (row : List ℕ) (memories : Memories) (from to : ℕ) (first second : List ℕ)
     (empty : IsSet sets 0) (held : AreSetsIn sets m.registers) (moves : MovesRegister linkage instr)
     (results : (sets : Numbered) (first second loaded : List ℕ) → AreNumbers sets first → AreResults sets sets (number_of first second loaded) (operands linkage instr) first)
     (is_from : from ≡ rs1_of instr) (is_to : to ≡ rd_of instr) (copies : CopiesBytes from to m.registers row) (clears : from ≡ 0 → ClearsBytes to m.registers row)
@@ -82,15 +78,15 @@ module _ (sets : Numbered) (linkage : Linkage) (instr : Instr) (before : Cpu) (m
       subst (λ (k : ℕ). WritesRegister k first m.registers row) is_to
       (copied m.registers row first from to (subst (λ (k : ℕ). 0 < k) (sym is_to) (moves-above linkage instr moves)) (subst (λ (k : ℕ). IsRegister m.registers k first) (sym is_from) of_first) copies clears)
 
-  pub copied-runs : Runs linkage instr before m (record m { registers = row }) segments segments sets sets
+  pub copied-runs : Runs linkage instr before m (record m { registers = row }) memories memories sets sets
   copied-runs =
-      apart-runs sets linkage instr before m row segments first second first (moves-apart linkage instr before moves) of_first of_second
+      apart-runs sets linkage instr before m row memories first second first (moves-apart linkage instr before moves) of_first of_second
       (results sets first second nothing (register-numbers sets m.registers (rs1_of instr) first empty held of_first)) writes
 
 -- nothing is taken: the register has the empty sets, if one is written
-pub cleared : (sets : Numbered) (linkage : Linkage) (instr : Instr) (before : Cpu) (m : MemberSets) (row : List ℕ) (segments : Segments) (first second : List ℕ) (rd : Option ℕ) → unwrap_or rd 0 ≡ rd_of instr
+pub cleared : (sets : Numbered) (linkage : Linkage) (instr : Instr) (before : Cpu) (m : MemberSets) (row : List ℕ) (memories : Memories) (first second : List ℕ) (rd : Option ℕ) → unwrap_or rd 0 ≡ rd_of instr
     → accessed instr before ≡ None → IsRegister m.registers (rs1_of instr) first → IsRegister m.registers (rs2_of instr) second
     → AreResults sets sets (number_of first second nothing) (operands linkage instr) nothing → WritesRegister (unwrap_or rd 0) nothing m.registers row
-    → Runs linkage instr before m (record m { registers = row }) segments segments sets sets
-cleared sets linkage instr before m row segments first second rd is_rd apart of_first of_second results writes =
-    apart-runs sets linkage instr before m row segments first second nothing apart of_first of_second results (subst (λ r. WritesRegister r nothing m.registers row) is_rd writes)
+    → Runs linkage instr before m (record m { registers = row }) memories memories sets sets
+cleared sets linkage instr before m row memories first second rd is_rd apart of_first of_second results writes =
+    apart-runs sets linkage instr before m row memories first second nothing apart of_first of_second results (subst (λ r. WritesRegister r nothing m.registers row) is_rd writes)

@@ -15,13 +15,13 @@ use Rattle.taint_flow.specs.Gathered.{AreNumbers, number_of}
 use Rattle.taint_flow.specs.Moving.{MovesLoaded, MovesStored}
 use Rattle.taint_flow.specs.Names.{loaded_len}
 use Rattle.taint_flow.specs.Results.{AreResults}
-use Rattle.taint_members.specs.Access.{AreFirst, PutsRead, PutsWindow, Segments, WritesSegment, WritesWindow, number_at}
+use Rattle.taint_members.specs.Access.{AreFirst, Memories, PutsRead, Writes, number_at}
 use Rattle.taint_members.specs.declared.member.MemberSets.{MemberSets}
 use Rattle.taint_pages.specs.Rows.{byte_in}
-use Rattle.taint_steps.specs.Running.{Runs, StoresSegment, StoresWindow, WritesRegister}
+use Rattle.taint_steps.specs.Running.{Runs, Stores, WritesRegister}
 use Rattle.taint_steps.specs.Taking.{AreSetsAt, AreSetsIn, IsRead, IsRegister, no_bytes}
 use Rattle.taint_steps.proofs.NothingLoaded.{nothing, read-none}
-use Rattle.taint_steps.proofs.NothingStored.{segment-none, window-none}
+use Rattle.taint_steps.proofs.NothingStored.{stores-none}
 
 -- eight numbers, by their places
 abbrev pub eight : (ℕ → ℕ) → List ℕ
@@ -47,33 +47,28 @@ zero-at zero i = refl
 zero-at (suc n) zero = refl
 zero-at (suc n) (suc i) = zero-at n i
 
--- the window is what it was
-window-same : (at : Option ℕ) (numbers : List ℕ) (m n : MemberSets) → n.window ≡ m.window → StoresWindow at numbers m m → StoresWindow at numbers m n
-window-same None numbers m n e stores = e
-window-same (Some at) numbers m n e stores = subst (PutsWindow at numbers m.window) (sym e) stores
-
 -- a load stores nothing
 loads-stored : (linkage : Linkage) (instr : Instr) → MovesLoaded linkage instr → stored_len instr ≡ 0
 loads-stored linkage (Load op rd rs1 imm) is = refl
 loads-stored linkage other is = absurd is
 
-module _ (sets : Numbered) (linkage : Linkage) (instr : Instr) (before : Cpu) (m n : MemberSets) (segments : Segments) (at reg : ℕ) (first second : List ℕ)
+module _ (sets : Numbered) (linkage : Linkage) (instr : Instr) (before : Cpu) (m n : MemberSets) (memories : Memories) (at reg : ℕ) (first second : List ℕ)
     (empty : IsSet sets 0) (loads : MovesLoaded linkage instr)
     (results : (first second loaded numbers : List ℕ) → AreNumbers sets loaded → Moves loaded (loaded_len instr) numbers → AreResults sets sets (number_of first second loaded) (operands linkage instr) numbers)
     (few : loaded_len instr ≤ 8) (is_at : accessed instr before ≡ Some at) (is_reg : reg ≡ rd_of instr) (above : 0 < reg)
-    (puts : PutsRead m segments at (loaded_len instr) reg m.registers n.registers) (others : n ≡ record m { registers = n.registers })
-    (of_first : IsRegister m.registers (rs1_of instr) first) (of_second : IsRegister m.registers (rs2_of instr) second) (raw : AreSetsAt sets m segments) where
+    (puts : PutsRead m memories at (loaded_len instr) reg m.registers n.registers) (others : n ≡ record m { registers = n.registers })
+    (of_first : IsRegister m.registers (rs1_of instr) first) (of_second : IsRegister m.registers (rs2_of instr) second) (raw : AreSetsAt sets m memories) where
   abbrev number : ℕ → ℕ
-  number i = if nat_lt i (loaded_len instr) then number_at m segments at i else 0
+  number i = if nat_lt i (loaded_len instr) then number_at m memories at i else 0
 
   abbrev numbers : List ℕ
   numbers = eight number
 
-  number-in : (i : ℕ) → i < loaded_len instr → number i ≡ number_at m segments at i
-  number-in i h = ap (λ (t : Bool). if t then number_at m segments at i else 0) (lt-ltb i (loaded_len instr) h)
+  number-in : (i : ℕ) → i < loaded_len instr → number i ≡ number_at m memories at i
+  number-in i h = ap (λ (t : Bool). if t then number_at m memories at i else 0) (lt-ltb i (loaded_len instr) h)
 
   number-behind : (i : ℕ) → loaded_len instr ≤ i → number i ≡ 0
-  number-behind i h = ap (λ (t : Bool). if t then number_at m segments at i else 0) (le-ltb i (loaded_len instr) h)
+  number-behind i h = ap (λ (t : Bool). if t then number_at m memories at i else 0) (le-ltb i (loaded_len instr) h)
 
   set : (i : ℕ) → IsSet sets (number i)
   set i = by_test (nat_lt i (loaded_len instr)) refl
@@ -94,8 +89,8 @@ module _ (sets : Numbered) (linkage : Linkage) (instr : Instr) (before : Cpu) (m
       by_test true e = index i (ltb-true i 8 e) ∙ number-behind i h
       by_test false e = eight-behind number i (ltb-false i 8 e)
 
-  is_read : IsRead (accessed instr before) (loaded_len instr) m segments numbers
-  is_read = subst (λ (o : Option ℕ). IsRead o (loaded_len instr) m segments numbers) (sym is_at) (record {
+  is_read : IsRead (accessed instr before) (loaded_len instr) m memories numbers
+  is_read = subst (λ (o : Option ℕ). IsRead o (loaded_len instr) m memories numbers) (sym is_at) (record {
     len = refl;
     bytes = λ k h. let within : k < 8 = omega (arith, h, few) in index k within ∙ number-in k h;
     zeros = zeros;
@@ -117,7 +112,7 @@ module _ (sets : Numbered) (linkage : Linkage) (instr : Instr) (before : Cpu) (m
           rw (e, lt-ltb 0 r some) (sym (index i h))
       by_test false e = rw e refl
 
-  pub loaded-runs : Runs linkage instr before m n segments segments sets sets
+  pub loaded-runs : Runs linkage instr before m n memories memories sets sets
   loaded-runs = record {
     numbers = numbers;
     takes = record {
@@ -130,9 +125,8 @@ module _ (sets : Numbered) (linkage : Linkage) (instr : Instr) (before : Cpu) (m
       results = results first second numbers numbers are_numbers moves;
     };
     register = register;
-    window = window-same (accessed instr before) (take (stored_len instr) numbers) m n (ap (λ (k : MemberSets). k.window) others) (window-none (accessed instr before) (stored_len instr) numbers m (loads-stored linkage instr loads));
-    segment = segment-none (accessed instr before) (stored_len instr) numbers m.segment segments (loads-stored linkage instr loads);
-    others = others ∙ ap (λ (w : List ℕ). record m { registers = n.registers; window = w }) (sym (ap (λ (k : MemberSets). k.window) others));
+    memory = stores-none (accessed instr before) (stored_len instr) numbers m memories (loads-stored linkage instr loads);
+    others = others;
   }
 
 -- a register's numbers are those of sets
@@ -154,9 +148,9 @@ first-numbers sets count number numbers empty held are = record { len = are.len;
   by_test k true e = subst (IsSet sets) (sym (are.bytes k (ltb-true k count e))) (held k)
   by_test k false e = subst (IsSet sets) (sym (are.zeros k (ltb-false k count e))) empty
 
-pub read-numbers : (sets : Numbered) (at : Option ℕ) (len : ℕ) (m : MemberSets) (segments : Segments) (numbers : List ℕ) → IsSet sets 0 → AreSetsAt sets m segments → IsRead at len m segments numbers → AreNumbers sets numbers
-read-numbers sets None len m segments numbers empty held read = first-numbers sets 0 no_bytes numbers empty (λ k. empty) read
-read-numbers sets (Some at) len m segments numbers empty held read = first-numbers sets len (number_at m segments at) numbers empty (held at) read
+pub read-numbers : (sets : Numbered) (at : Option ℕ) (len : ℕ) (m : MemberSets) (memories : Memories) (numbers : List ℕ) → IsSet sets 0 → AreSetsAt sets m memories → IsRead at len m memories numbers → AreNumbers sets numbers
+read-numbers sets None len m memories numbers empty held read = first-numbers sets 0 no_bytes numbers empty (λ k. empty) read
+read-numbers sets (Some at) len m memories numbers empty held read = first-numbers sets len (number_at m memories at) numbers empty (held at) read
 
 -- a store loads nothing, and writes no register
 stores-loaded : (linkage : Linkage) (instr : Instr) → MovesStored linkage instr → loaded_len instr ≡ 0
@@ -175,11 +169,11 @@ writes-none all row (suc r) i h = by_test (suc r == 0) refl
     by_test true e = let is = eqb-true (suc r) 0 e in absurd (omega (arith, is))
     by_test false e = rw e refl
 
-module _ (sets : Numbered) (linkage : Linkage) (instr : Instr) (before : Cpu) (m n : MemberSets) (segments written : Segments) (at : ℕ) (first second : List ℕ)
+module _ (sets : Numbered) (linkage : Linkage) (instr : Instr) (before : Cpu) (m : MemberSets) (memories written : Memories) (at : ℕ) (first second : List ℕ)
     (empty : IsSet sets 0) (held : AreSetsIn sets m.registers) (stores : MovesStored linkage instr)
     (results : (first second loaded numbers : List ℕ) → AreNumbers sets second → Moves second (stored_len instr) numbers → AreResults sets sets (number_of first second loaded) (operands linkage instr) numbers)
     (few : stored_len instr ≤ 8) (is_at : accessed instr before ≡ Some at)
-    (writes_window : WritesWindow at (take (stored_len instr) second) m n) (writes_segment : WritesSegment at (take (stored_len instr) second) m.segment segments written) (others : n ≡ record m { window = n.window })
+    (writes : Writes at (take (stored_len instr) second) m memories written)
     (of_first : IsRegister m.registers (rs1_of instr) first) (of_second : IsRegister m.registers (rs2_of instr) second) where
   abbrev len : ℕ
   len = stored_len instr
@@ -212,13 +206,10 @@ module _ (sets : Numbered) (linkage : Linkage) (instr : Instr) (before : Cpu) (m
     none = λ i h behind. filled-high i behind;
   }
 
-  window : StoresWindow (accessed instr before) (take len filled) m n
-  window = subst (λ (o : Option ℕ). StoresWindow o (take len filled) m n) (sym is_at) (subst (λ (l : List ℕ). WritesWindow at l m n) (sym filled-take) writes_window)
+  memory : Stores (accessed instr before) (take len filled) m memories written
+  memory = subst (λ (o : Option ℕ). Stores o (take len filled) m memories written) (sym is_at) (subst (λ (l : List ℕ). Writes at l m memories written) (sym filled-take) writes)
 
-  segment : StoresSegment (accessed instr before) (take len filled) m.segment segments written
-  segment = subst (λ (o : Option ℕ). StoresSegment o (take len filled) m.segment segments written) (sym is_at) (subst (λ (l : List ℕ). WritesSegment at l m.segment segments written) (sym filled-take) writes_segment)
-
-  pub stored-runs : Runs linkage instr before m n segments written sets sets
+  pub stored-runs : Runs linkage instr before m m memories written sets sets
   stored-runs = record {
     numbers = filled;
     takes = record {
@@ -227,11 +218,10 @@ module _ (sets : Numbered) (linkage : Linkage) (instr : Instr) (before : Cpu) (m
       loaded = nothing;
       of_first = of_first;
       of_second = of_second;
-      read = read-none (accessed instr before) (loaded_len instr) m segments (stores-loaded linkage instr stores);
+      read = read-none (accessed instr before) (loaded_len instr) m memories (stores-loaded linkage instr stores);
       results = results first second nothing filled (record { len = register-len m.registers (rs2_of instr) second of_second; set = λ i h. register-set sets m.registers (rs2_of instr) second empty held of_second i h }) moving;
     };
-    register = subst (λ (k : MemberSets). WritesRegister (rd_of instr) filled m.registers k.registers) (sym others) (subst (λ (rd : ℕ). WritesRegister rd filled m.registers m.registers) (sym (stores-rd linkage instr stores)) (writes-none filled m.registers));
-    window = window;
-    segment = segment;
-    others = others ∙ ap (λ (r : List ℕ). record m { registers = r; window = n.window }) (sym (ap (λ (k : MemberSets). k.registers) others));
+    register = subst (λ (rd : ℕ). WritesRegister rd filled m.registers m.registers) (sym (stores-rd linkage instr stores)) (writes-none filled m.registers);
+    memory = memory;
+    others = refl;
   }

@@ -3,9 +3,8 @@ use Rattle.std.specs.Prelude.{◌≡◌, ℕ, ◌<◌, nat_lt, ◌==◌, ◌&&�
 use Rattle.arn_base.specs.declared.machine.Cpu.{Cpu}
 use Rattle.rv64_isa.specs.declared.instruction.Instr.{Instr}
 use Rattle.rv64_model.specs.Operands.{accessed, rd_of, stored_len}
-use Rattle.taint_members.specs.Access.{Segments, WritesSegment, WritesWindow}
+use Rattle.taint_members.specs.Access.{Memories, Writes}
 use Rattle.taint_members.specs.declared.member.MemberSets.{MemberSets}
-use Rattle.taint_members.specs.declared.member.Shared.{Shared}
 use Rattle.taint_pages.specs.Rows.{byte_in}
 use Rattle.taint_steps.specs.Taking.{Takes}
 use Rattle.rv64_model.specs.declared.linkage.Linkage.{Linkage}
@@ -16,21 +15,15 @@ abbrev pub WritesRegister : ℕ → List ℕ → List ℕ → List ℕ → Type 
 WritesRegister rd numbers old new =
     (r i : ℕ) → i < 8 → byte_in new r i ≡ (if (r == rd) && nat_lt 0 r then slice_index numbers i else byte_in old r i)
 
--- the bytes of the window have other numbers from an address on, if there is one
-abbrev pub StoresWindow : Option ℕ → List ℕ → MemberSets → MemberSets → Type 0
-StoresWindow None numbers old new = new.window ≡ old.window
-StoresWindow (Some at) numbers old new = WritesWindow at numbers old new
-
--- so have those of the segment that is held
-abbrev pub StoresSegment : Option ℕ → List ℕ → Option Shared → Segments → Segments → Type 0
-StoresSegment None numbers segment old new = new ≡ old
-StoresSegment (Some at) numbers segment old new = WritesSegment at numbers segment old new
+-- the bytes of a memory have other numbers from an address on, if there is one
+abbrev pub Stores : Option ℕ → List ℕ → MemberSets → Memories → Memories → Type 0
+Stores None numbers m old new = new ≡ old
+Stores (Some at) numbers m old new = Writes at numbers m old new
 
 -- What is taken becomes that of the register that is written, and of the bytes that are stored. All other bytes keep what they had.
-pub record Runs (linkage : Linkage) (instr : Instr) (before : Cpu) (m n : MemberSets) (segments written : Segments) (old new : Numbered) : Type 0 where
+pub record Runs (linkage : Linkage) (instr : Instr) (before : Cpu) (m n : MemberSets) (memories written : Memories) (old new : Numbered) : Type 0 where
   pub numbers : List ℕ
-  pub takes : Takes old new linkage instr before m segments numbers
+  pub takes : Takes old new linkage instr before m memories numbers
   pub register : WritesRegister (rd_of instr) numbers m.registers n.registers
-  pub window : StoresWindow (accessed instr before) (take (stored_len instr) numbers) m n
-  pub segment : StoresSegment (accessed instr before) (take (stored_len instr) numbers) m.segment segments written
-  pub others : n ≡ record m { registers = n.registers; window = n.window }
+  pub memory : Stores (accessed instr before) (take (stored_len instr) numbers) m memories written
+  pub others : n ≡ record m { registers = n.registers }

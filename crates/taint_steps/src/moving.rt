@@ -1,7 +1,7 @@
 // Instructions that move sets as they are, between a register and memory or from one register to another.
 ghost use Rattle.std.specs.Prelude.{◌≡◌, ◌<◌, ◌≤◌, IsTrue, false, length, IfOk};
 ghost use Rattle.arn_base.specs.declared.machine.Cpu.{Cpu as AnyCpu};
-ghost use Rattle.taint_members.specs.Access.{HoldsKey, PutsRead, Segments};
+ghost use Rattle.taint_members.specs.Access.{HoldsKeys, PutsRead, Memories};
 ghost use Rattle.taint_steps.specs.Running.{Runs};
 ghost use Rattle.taint_steps.specs.Taking.{AreSetsAt, AreSetsIn};
 
@@ -13,7 +13,7 @@ use rv64_model::Linkage;
 use taint_flow::{
     loaded_len, moves_loaded, moves_register, moves_stored, rd, rs1, rs2, stored_len,
 };
-use taint_members::{MemberSets, load_register, write_held};
+use taint_members::{MemberSets, load_register, write};
 use taint_pages::SetNumbers;
 use taint_spans::SpanSets;
 
@@ -21,11 +21,11 @@ use taint_spans::SpanSets;
 /// zeros behind them. False says that the register is x0, or the address lies outside the member's
 /// memories: then nothing was done.
 #[inline(always)]
-fn load_to(member: &mut MemberSets, segments: &[SetNumbers], at: u64, len: usize, reg: Reg) -> bool
+fn load_to(member: &mut MemberSets, memories: &[SetNumbers], at: u64, len: usize, reg: Reg) -> bool
     requires few { len ≤ 8 }
-    requires held { HoldsKey member.old.segment segments.now }
+    requires held { HoldsKeys member.old memories.now }
     ensures above { IsTrue result → 0 < reg }
-    ensures puts { IsTrue result → PutsRead member.old segments.now at len reg
+    ensures puts { IsTrue result → PutsRead member.old memories.now at len reg
         member.old.registers member.new.registers }
     ensures others { member.new ≡ record member.old { registers = member.new.registers } }
     ensures kept { result ≡ false → member.new ≡ member.old }
@@ -33,7 +33,7 @@ fn load_to(member: &mut MemberSets, segments: &[SetNumbers], at: u64, len: usize
     if reg.number() == 0 {
         return false;
     }
-    load_register(member, segments, at, len, reg)
+    load_register(member, memories, at, len, reg)
 }
 
 /// Moves the sets of the bytes that an instruction loads to its register, if that is all that it
@@ -45,12 +45,12 @@ pub fn move_loaded(
     instr: &Instr,
     before: &Cpu,
     member: &mut MemberSets,
-    segments: &[SetNumbers],
+    memories: &[SetNumbers],
 ) -> bool
-    requires held { HoldsKey member.old.segment segments.now }
-    requires memory { AreSetsAt sets.now member.old segments.now }
+    requires held { HoldsKeys member.old memories.now }
+    requires memory { AreSetsAt sets.now member.old memories.now }
     ensures runs { IsTrue result → Runs linkage instr.now before.now member.old member.new
-        segments.now segments.now sets.now sets.now }
+        memories.now memories.now sets.now sets.now }
     ensures kept { result ≡ false → member.new ≡ member.old }
 {
     if !moves_loaded(sets, linkage, instr) {
@@ -64,7 +64,7 @@ pub fn move_loaded(
     let Some(reg) = rd(instr) else {
         return false;
     };
-    load_to(member, segments, at, loaded_len(instr), reg)
+    load_to(member, memories, at, loaded_len(instr), reg)
 }
 
 /// Moves the sets of a register to the bytes that an instruction stores, if that is all that it
@@ -75,16 +75,15 @@ pub fn move_stored(
     linkage: Linkage,
     instr: &Instr,
     before: &Cpu,
-    member: &mut MemberSets,
-    segments: &mut [SetNumbers],
+    member: &MemberSets,
+    memories: &mut [SetNumbers],
 ) -> Result<bool, NoMemory>
-    requires held { HoldsKey member.old.segment segments.old }
-    requires registers { AreSetsIn sets.now member.old.registers }
+    requires held { HoldsKeys member.now memories.old }
+    requires registers { AreSetsIn sets.now member.now.registers }
     ensures runs { IfOk result (λ done. IsTrue done → Runs linkage instr.now before.now
-        member.old member.new segments.old segments.new sets.now sets.now) }
-    ensures member { IfOk result (λ done. done ≡ false → member.new ≡ member.old) }
-    ensures segments { IfOk result (λ done. done ≡ false → segments.new ≡ segments.old) }
-    ensures keys { length segments.new ≡ length segments.old }
+        member.now member.now memories.old memories.new sets.now sets.now) }
+    ensures memories { IfOk result (λ done. done ≡ false → memories.new ≡ memories.old) }
+    ensures keys { length memories.new ≡ length memories.old }
 {
     if !moves_stored(sets, linkage, instr) {
         return Ok(false);
@@ -95,7 +94,7 @@ pub fn move_stored(
         return Ok(false);
     };
     let numbers = &bytes_of(&member.registers, rs2(instr))[..stored_len(instr)];
-    write_held(&mut member.window, member.segment, segments, at, numbers)?;
+    write(member, memories, at, numbers)?;
     Ok(true)
 }
 
@@ -109,8 +108,8 @@ pub fn move_register(
     member: &mut MemberSets,
 ) -> bool
     requires registers { AreSetsIn sets.now member.old.registers }
-    ensures runs { IsTrue result → (before : AnyCpu) (segments : Segments) → Runs linkage instr.now before
-        member.old member.new segments segments sets.now sets.now }
+    ensures runs { IsTrue result → (before : AnyCpu) (memories : Memories) → Runs linkage instr.now before
+        member.old member.new memories memories sets.now sets.now }
     ensures kept { result ≡ false → member.new ≡ member.old }
 {
     if !moves_register(linkage, instr) {

@@ -3,8 +3,8 @@ ghost use Rattle.std.specs.Prelude.{◌≡◌, ℕ, List, None, take, length, re
 ghost use Rattle.rv64_model.specs.Operands as operands;
 ghost use Rattle.taint_flow.specs.Silent.{AreEmpty};
 ghost use Rattle.taint_spans.specs.Numbered.{StandAsBefore};
-ghost use Rattle.taint_members.specs.Access.{HoldsKey};
-ghost use Rattle.taint_steps.specs.Running.{Runs, StoresSegment, StoresWindow, WritesRegister};
+ghost use Rattle.taint_members.specs.Access.{HoldsKeys};
+ghost use Rattle.taint_steps.specs.Running.{Runs, Stores, WritesRegister};
 ghost use Rattle.taint_steps.specs.Taking.{AreSetsAt, AreSetsIn, IsRegister};
 
 use crate::moving::{move_loaded, move_register, move_stored};
@@ -81,25 +81,22 @@ fn reads_nothing(instr: &Instr, before: &Cpu, row: &Row) -> bool
 fn store(
     instr: &Instr,
     before: &Cpu,
-    member: &mut MemberSets,
-    segments: &mut [SetNumbers],
+    member: &MemberSets,
+    memories: &mut [SetNumbers],
     numbers: &[u32],
 ) -> Result<(), NoMemory>
     requires eight { length numbers.now ≡ 8 }
-    requires held { HoldsKey member.old.segment segments.old }
-    ensures window { OnOk result (StoresWindow (operands.accessed instr.now before.now)
-        (take (operands.stored_len instr.now) numbers.now) member.old member.new) }
-    ensures segment { OnOk result (StoresSegment (operands.accessed instr.now before.now)
-        (take (operands.stored_len instr.now) numbers.now) member.old.segment segments.old segments.new) }
-    ensures others { member.new ≡ record member.old { window = member.new.window } }
-    ensures keys { length segments.new ≡ length segments.old }
+    requires held { HoldsKeys member.now memories.old }
+    ensures memory { OnOk result (Stores (operands.accessed instr.now before.now)
+        (take (operands.stored_len instr.now) numbers.now) member.now memories.old memories.new) }
+    ensures keys { length memories.new ≡ length memories.old }
 {
     let len = stored_len(instr);
     if len == 0 {
         return Ok(());
     }
     match accessed(instr, before) {
-        Some(at) => write(member, segments, at, &numbers[..len]),
+        Some(at) => write(member, memories, at, &numbers[..len]),
         None => Ok(()),
     }
 }
@@ -113,15 +110,15 @@ fn run_any(
     instr: Instr,
     before: &Cpu,
     member: &mut MemberSets,
-    segments: &mut [SetNumbers],
+    memories: &mut [SetNumbers],
 ) -> Result<(), NoMemory>
-    requires held { HoldsKey member.old.segment segments.old }
+    requires held { HoldsKeys member.old memories.old }
     requires registers { AreSetsIn sets.old member.old.registers }
-    requires memory { AreSetsAt sets.old member.old segments.old }
+    requires memory { AreSetsAt sets.old member.old memories.old }
     ensures runs { OnOk result (Runs linkage instr before.now member.old member.new
-        segments.old segments.new sets.old sets.new) }
+        memories.old memories.new sets.old sets.new) }
     ensures before { StandAsBefore sets.old sets.new }
-    ensures keys { length segments.new ≡ length segments.old }
+    ensures keys { length memories.new ≡ length memories.old }
 {
     // Asked for what is promised of them: nothing is done with them.
     let _ = registers(&instr, member);
@@ -130,9 +127,9 @@ fn run_any(
         clear_register(&mut member.registers, rd(&instr));
         return Ok(());
     }
-    let numbers = taken(sets, linkage, &instr, before, member, segments)?;
+    let numbers = taken(sets, linkage, &instr, before, member, memories)?;
     write_register(&mut member.registers, rd(&instr), &numbers);
-    store(&instr, before, member, segments, &numbers)
+    store(&instr, before, member, memories, &numbers)
 }
 
 /// A member runs an instruction that the next one follows: its register, or the bytes that it stores, have the sets
@@ -144,15 +141,15 @@ pub fn run(
     instr: &Instr,
     before: &Cpu,
     member: &mut MemberSets,
-    segments: &mut [SetNumbers],
+    memories: &mut [SetNumbers],
 ) -> Result<(), NoMemory>
-    requires held { HoldsKey member.old.segment segments.old }
+    requires held { HoldsKeys member.old memories.old }
     requires registers { AreSetsIn sets.old member.old.registers }
-    requires memory { AreSetsAt sets.old member.old segments.old }
+    requires memory { AreSetsAt sets.old member.old memories.old }
     ensures runs { OnOk result (Runs linkage instr.now before.now member.old member.new
-        segments.old segments.new sets.old sets.new) }
+        memories.old memories.new sets.old sets.new) }
     ensures before { StandAsBefore sets.old sets.new }
-    ensures keys { length segments.new ≡ length segments.old }
+    ensures keys { length memories.new ≡ length memories.old }
 {
     // Asked for what is promised of both: nothing is done with them.
     let _ = sets.empty();
@@ -164,11 +161,11 @@ pub fn run(
     if move_register(sets, linkage, instr, member) {
         return Ok(());
     }
-    if move_loaded(sets, linkage, instr, before, member, segments) {
+    if move_loaded(sets, linkage, instr, before, member, memories) {
         return Ok(());
     }
-    if move_stored(sets, linkage, instr, before, member, segments)? {
+    if move_stored(sets, linkage, instr, before, member, memories)? {
         return Ok(());
     }
-    run_any(sets, linkage, *instr, before, member, segments)
+    run_any(sets, linkage, *instr, before, member, memories)
 }

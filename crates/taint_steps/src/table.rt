@@ -20,16 +20,16 @@ fn run_entry(
     instr: &Instr,
     before: &Cpu,
     entry: &mut Option<MemberSets>,
-    segments: &mut [SetNumbers],
+    memories: &mut [SetNumbers],
 ) -> Result<(), NoMemory>
-    requires { IfSome entry.old (IsReady sets.old segments.old) }
+    requires { IfSome entry.old (IsReady sets.old memories.old) }
     ensures runs { OnOk result (RunsEntry entry.old entry.new linkage instr.now before.now
-        segments.old segments.new sets.old sets.new) }
+        memories.old memories.new sets.old sets.new) }
     ensures before { StandAsBefore sets.old sets.new }
-    ensures keys { length segments.new ≡ length segments.old }
+    ensures keys { length memories.new ≡ length memories.old }
 {
     match entry {
-        Some(member) => run(sets, linkage, instr, before, member, segments),
+        Some(member) => run(sets, linkage, instr, before, member, memories),
         None => Ok(()),
     }
 }
@@ -44,19 +44,19 @@ pub fn run_member(
     before: &Cpu,
     pid: u32,
     members: &mut [Option<MemberSets>],
-    segments: &mut [SetNumbers],
+    memories: &mut [SetNumbers],
 ) -> Result<(), NoMemory>
-    requires { IfSome (nth members.old pid) (IsReady sets.old segments.old) }
+    requires { IfSome (nth members.old pid) (IsReady sets.old memories.old) }
     ensures runs { OnOk result (RunsMember (nth members.old pid) pid linkage instr.now before.now
-        record { members = members.old; segments = segments.old; sets = sets.old }
-        record { members = members.new; segments = segments.new; sets = sets.new }) }
+        record { members = members.old; memories = memories.old; sets = sets.old }
+        record { members = members.new; memories = memories.new; sets = sets.new }) }
     ensures before { StandAsBefore sets.old sets.new }
     ensures members { length members.new ≡ length members.old }
-    ensures keys { length segments.new ≡ length segments.old }
+    ensures keys { length memories.new ≡ length memories.old }
 {
     let place = pid as usize;
     if place < members.len() {
-        run_entry(sets, linkage, instr, before, &mut members[place], segments)
+        run_entry(sets, linkage, instr, before, &mut members[place], memories)
     } else {
         Ok(())
     }

@@ -3,7 +3,7 @@ ghost use Rattle.std.specs.Prelude.{◌≡◌, ◌<◌, ℕ, IfOk, unwrap_or};
 ghost use Rattle.rv64_model.specs.Operands as operands;
 ghost use Rattle.taint_spans.specs.Numbered.{StandAsBefore};
 ghost use Rattle.taint_flow.specs.Names as names;
-ghost use Rattle.taint_members.specs.Access.{HoldsKey};
+ghost use Rattle.taint_members.specs.Access.{HoldsKeys};
 ghost use Rattle.taint_pages.specs.Rows.{AreBytes};
 ghost use Rattle.taint_steps.specs.Taking.{AreSetsAt, AreSetsIn, IsRead, IsRegister, Takes};
 
@@ -45,17 +45,17 @@ pub fn registers<'a>(instr: &Instr, member: &'a MemberSets) -> (&'a [u32], &'a [
 
 /// The numbers of the bytes that an instruction loads, and zeros behind them.
 #[inline(always)]
-fn loaded(instr: &Instr, before: &Cpu, member: &MemberSets, segments: &[SetNumbers]) -> [u32; 8]
-    requires held { HoldsKey member.now.segment segments.now }
+fn loaded(instr: &Instr, before: &Cpu, member: &MemberSets, memories: &[SetNumbers]) -> [u32; 8]
+    requires held { HoldsKeys member.now memories.now }
     ensures { IsRead (operands.accessed instr.now before.now) (names.loaded_len instr.now)
-        member.now segments.now result }
+        member.now memories.now result }
 {
     let len = loaded_len(instr);
     if len == 0 {
         return [0; 8];
     }
     match accessed(instr, before) {
-        Some(at) => read(member, segments, at, len),
+        Some(at) => read(member, memories, at, len),
         None => [0; 8],
     }
 }
@@ -68,17 +68,17 @@ pub fn taken(
     instr: &Instr,
     before: &Cpu,
     member: &MemberSets,
-    segments: &[SetNumbers],
+    memories: &[SetNumbers],
 ) -> Result<[u32; 8], NoMemory>
-    requires held { HoldsKey member.now.segment segments.now }
+    requires held { HoldsKeys member.now memories.now }
     requires registers { AreSetsIn sets.old member.now.registers }
-    requires memory { AreSetsAt sets.old member.now segments.now }
+    requires memory { AreSetsAt sets.old member.now memories.now }
     ensures takes { IfOk result
-        (Takes sets.old sets.new linkage instr.now before.now member.now segments.now) }
+        (Takes sets.old sets.new linkage instr.now before.now member.now memories.now) }
     ensures before { StandAsBefore sets.old sets.new }
 {
     let _ = sets.empty();
-    let loaded = loaded(instr, before, member, segments);
+    let loaded = loaded(instr, before, member, memories);
     let (first, second) = registers(instr, member);
     results(sets, linkage, instr, first, second, &loaded)
 }

@@ -3,8 +3,8 @@ ghost use Rattle.std.specs.Prelude.{◌≡◌, ◌<◌, ◌+◌, ◌-◌, ◌/�
 ghost use Rattle.acts_model.specs.Transfers.{is_private, is_shared};
 ghost use Rattle.parts_model.specs.declared.limits.TheConstants as limits;
 ghost use Rattle.parts_model.specs.Numbered.{nth};
-ghost use Rattle.taint_members.specs.Access.{HoldsKey, held_numbers};
-ghost use Rattle.taint_members.specs.declared.member.Shared.{Shared};
+ghost use Rattle.taint_members.specs.Access.{HoldsKey, HoldsKeys, held_numbers};
+ghost use Rattle.taint_members.specs.declared.member.Held.{Held};
 ghost use Rattle.taint_pages.specs.Rows.{byte_in};
 ghost use Rattle.taint_state.specs.Asked.{answer, where_true};
 ghost use Rattle.taint_group.specs.Groups.{IsSoundGroup, heard_of, kept_of};
@@ -18,7 +18,7 @@ use crate::items::KeptItems;
 use parts_model::limits::{SEGMENT_END, SEGMENT_START, WINDOW_END, WINDOW_START};
 use rv64_isa::Reg;
 use taint_group::Group;
-use taint_members::{MemberSets, Shared};
+use taint_members::{Held, MemberSets};
 use taint_pages::{Row, SetNumbers};
 use taint_state::{ChildStart, HeardEvent, Point};
 
@@ -104,29 +104,29 @@ fn fork_number(heard: &HeardEvent, at: u64) -> Option<u32>
 }
 
 /// The number of a byte of a segment that may be held.
-fn segment_number(segment: Option<Shared>, segments: &[SetNumbers], at: u64) -> Option<u32>
-    requires held { HoldsKey segment segments.now }
+fn segment_number(segment: Option<Held>, memories: &[SetNumbers], at: u64) -> Option<u32>
+    requires held { HoldsKey segment memories.now }
     ensures { result ≡ if is_shared at
-        then option_map (λ (shared : Shared).
-        slice_index (held_numbers segment segments.now) (at - limits.SEGMENT_START)) segment
+        then option_map (λ (held : Held).
+        slice_index (held_numbers segment memories.now) (at - limits.SEGMENT_START)) segment
         else None }
 {
     match segment {
-        Some(shared) if SEGMENT_START <= at && at < SEGMENT_END => Some(segments[shared.key].find(
+        Some(held) if SEGMENT_START <= at && at < SEGMENT_END => Some(memories[held.key].find(
             (at - SEGMENT_START) as usize,
         )),
         _ => None,
     }
 }
 
-/// The number of a byte of a member's window.
-fn memory_number(member: &MemberSets, segments: &[SetNumbers], at: u64) -> Option<u32>
-    requires held { HoldsKey member.now.segment segments.now }
-    ensures { result ≡ numbers.memory_number at (kept_member segments.now member.now) }
+/// The number of a byte of a member's memories.
+fn memory_number(member: &MemberSets, memories: &[SetNumbers], at: u64) -> Option<u32>
+    requires held { HoldsKeys member.now memories.now }
+    ensures { result ≡ numbers.memory_number at (kept_member memories.now member.now) }
 {
-    match window_number(&member.window, at) {
+    match window_number(&memories[member.window.key], at) {
         Some(number) => Some(number),
-        None => segment_number(member.segment, segments, at),
+        None => segment_number(member.segment, memories, at),
     }
 }
 
@@ -177,10 +177,10 @@ fn start_byte(group: &Group, event: u64, at: u64) -> Option<u32>
 fn memory_byte(group: &Group, pid: u32, at: u64) -> Option<u32>
     requires sound { IsSoundGroup group.now }
     ensures { result ≡ option_and_then (numbers.memory_number at)
-        (option_map (kept_member group.now.segments.items) (nth group.now.members.items pid)) }
+        (option_map (kept_member group.now.memories.items) (nth group.now.members.items pid)) }
 {
     match member(group, pid) {
-        Some(member) => memory_number(member, group.segments.as_slice(), at),
+        Some(member) => memory_number(member, group.memories.as_slice(), at),
         None => None,
     }
 }
@@ -188,7 +188,7 @@ fn memory_byte(group: &Group, pid: u32, at: u64) -> Option<u32>
 /// The number of a byte of a member's registers.
 fn register_byte(group: &Group, pid: u32, reg: u8, byte: u8) -> Option<u32>
     ensures { result ≡ option_and_then (numbers.register_number reg byte)
-        (option_map (kept_member group.now.segments.items) (nth group.now.members.items pid)) }
+        (option_map (kept_member group.now.memories.items) (nth group.now.members.items pid)) }
 {
     match member(group, pid) {
         Some(member) => register_number(&member.registers, reg, byte),

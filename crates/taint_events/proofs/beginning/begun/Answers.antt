@@ -1,7 +1,6 @@
 use Rattle.std.proofs.Common.{◌≡◌, ◌+◌, ◌*◌, ◌-◌, cond, ℕ, List, sym, ap, subst, ◌∙◌, ne_eqb, arith}
 use Rattle.taint_spans.specs.Numbered.{IsItem, Numbered, StandAsBefore}
 use Rattle.taint_members.specs.Rows.{ClearsResult}
-use Rattle.taint_members.specs.declared.member.MemberSets.{MemberSets}
 use Rattle.taint_pages.specs.Rows.{byte_in}
 use Rattle.taint_events.specs.Beginning.{AreItemsOfRow, BeginsRegisters, Counts}
 use Rattle.taint_events.proofs.Growing.{item-stays, row-items}
@@ -23,16 +22,14 @@ row-stays old new event first row stands items = λ r i above below byte. item-s
 
 pub returns-clause-registers : goal.returns-clause-registers
 returns-clause-registers c =
-    let row = c.in_ok-count_row.field-0 in
+    let row = c.in_ok-registers.registers in
     let from : c.in_ok-first.first + 0 ≡ c.in_ok-first.first = omega arith in
-    begins c.receive-2.new.self c.args.event row c.returns.new.self.registers
+    begins c.receive-2.new.self c.args.event row c.clear_result.new.registers
     (row-stays c.receive.new.self c.receive-2.new.self c.args.event 0 row c.receive-2.ensures.before
-    (row-items c.receive.new.self c.args.event 496 c.in_ok-first.first 0 row c.in_ok-first.ensures.received (omega arith) (subst (λ (n : ℕ). Counts n row) (sym from) c.in_ok-count_row.ensures)))
-    c.returns.ensures.result
+    (row-items c.receive.new.self c.args.event 496 c.in_ok-first.first 0 row c.in_ok-first.ensures.received (omega arith) (subst (λ (n : ℕ). Counts n row) (sym from) c.in_ok-registers.ensures)))
+    c.clear_result.ensures
 
 pub returns-clause-slot : goal.returns-clause-slot
 returns-clause-slot c =
-    let row = c.in_ok-count_row-2.field-0 in
-    subst (λ (slot : List ℕ). AreItemsOfRow c.receive-2.new.self c.args.event 248 slot) (sym (ap (λ (m : MemberSets). m.slot) c.returns.ensures.others))
-    (row-stays c.receive.new.self c.receive-2.new.self c.args.event 248 row c.receive-2.ensures.before
-    (row-items c.receive.new.self c.args.event 496 c.in_ok-first.first 248 row c.in_ok-first.ensures.received (omega arith) c.in_ok-count_row-2.ensures))
+    row-stays c.receive.new.self c.receive-2.new.self c.args.event 248 c.in_ok-count_row.field-0 c.receive-2.ensures.before
+    (row-items c.receive.new.self c.args.event 496 c.in_ok-first.first 248 c.in_ok-count_row.field-0 c.in_ok-first.ensures.received (omega arith) c.in_ok-count_row.ensures)

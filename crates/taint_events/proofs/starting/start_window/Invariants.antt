@@ -7,5 +7,5 @@ use Rattle.taint_events.proofs.starting.start_window.Given as goal
 abbrev pub invariant-loop-place : goal.invariant-loop-place
 invariant-loop-place l = record {
   len : length l.window ≡ window_len;
-  bytes : (k : ℕ) → k < l.place → slice_index l.window k ≡ started_number l.load l.numbers (number_at l.old l.segments l.block) l.block_len (WINDOW_START + k);
+  bytes : (k : ℕ) → k < l.place → slice_index l.window k ≡ started_number l.load l.numbers (number_at l.old l.memories l.block) l.block_len (WINDOW_START + k);
 }

@@ -1,20 +1,17 @@
-use Rattle.std.proofs.Common.{slice_set, None, refl, ap, ◌∙◌}
-use Rattle.std.proofs.lemmas.List.{set-get_or}
+use Rattle.std.proofs.Common.{◌≡◌, None, refl}
 use Rattle.taint_group.specs.Moves.{HasChild}
-use Rattle.taint_group.proofs.Turning.{of-none, ok-place}
+use Rattle.taint_group.proofs.Turning.{of-none, ok-there}
 use Rattle.taint_group.proofs.forks.child_of.Goals as goal
 
 pub bounds-members-place : goal.bounds-members-place
 bounds-members-place c = c.if-place-members.true
 
-pub returns-then-place-members-clause-child : goal.returns-then-place-members-clause-child
-returns-then-place-members-clause-child c = ok-place c.entry_child.result (HasChild c.args.event) c.args.members.now c.args.pid c.index-members-place.result c.if-place-members.true c.entry_child.ensures.child
-
 pub returns-else-place-members-clause-child : goal.returns-else-place-members-clause-child
-returns-else-place-members-clause-child c = of-none (λ o. HasChild c.args.event o None) c.args.members.now c.args.pid c.if-place-members.false tt
+returns-else-place-members-clause-child c = of-none (λ o. HasChild c.args.memories.now o None) c.args.members.now c.args.pid c.if-place-members.false tt
 
-pub returns-then-place-members-clause-same : goal.returns-then-place-members-clause-same
-returns-then-place-members-clause-same c = ap (slice_set c.args.members.now c.args.pid) c.entry_child.ensures.same ∙ set-get_or c.args.members.now c.args.pid c.index-members-place.result
+pub returns-else-place-members-clause-none : goal.returns-else-place-members-clause-none
+returns-else-place-members-clause-none c = λ e. refl
 
-pub returns-else-place-members-clause-same : goal.returns-else-place-members-clause-same
-returns-else-place-members-clause-same c = refl
+pub returns-then-place-members-clause-none : goal.returns-then-place-members-clause-none
+returns-then-place-members-clause-none c =
+    ok-there c.entry_child.result (λ o child. o ≡ None → child ≡ None) c.args.members.now c.args.pid c.index-members-place.result c.index-members-place.is c.if-place-members.true c.entry_child.ensures.none

@@ -1,4 +1,4 @@
-use Rattle.std.proofs.Common.{◌<◌, length, sym, subst, ◌∙◌, arith}
+use Rattle.std.proofs.Common.{◌<◌, length, ◌∙◌, arith}
 use Rattle.std.proofs.lemmas.List.{get_or_default}
 use Rattle.taint_state.proofs.Carrying.{carried-more, events-kept, on-twice}
 use Rattle.taint_state.proofs.Ordered.{none_heard}

@@ -1,6 +1,6 @@
-use Rattle.std.proofs.Common.{◌≤◌, ℕ, take, refl, subst, sym, ◌∙◌}
+use Rattle.std.proofs.Common.{◌≤◌, ℕ, take, subst, sym, ◌∙◌}
 use Rattle.taint_spans.specs.Numbered.{IsSet}
-use Rattle.taint_members.specs.Access.{PutsWindow, WritesSegment}
+use Rattle.taint_members.specs.Access.{Writes}
 use Rattle.taint_steps.specs.Taking.{IsRegister}
 use Rattle.taint_steps.proofs.Whole.{stored-runs}
 use Rattle.taint_steps.proofs.moving.move_stored.Goals as goal
@@ -12,19 +12,18 @@ returns-clause-runs c done =
     let second = c.bytes_of.result.now in
     let len = c.stored_len.ensures.len in
     let stores = c.moves_stored.ensures.moves.0 c.if-not-moves_stored.false in
-    stored-runs c.args.sets.now c.args.linkage c.args.instr.now c.args.before.now m (record m { window = c.write_held.new.window }) c.args.segments.now c.write_held.new.segments at c.registers.result.0.now second
+    stored-runs c.args.sets.now c.args.linkage c.args.instr.now c.args.before.now m c.args.memories.now c.write.new.memories at c.registers.result.0.now second
     (subst (IsSet c.args.sets.now) c.empty.ensures.zero c.empty.ensures.set) c.requires.registers stores (c.moves_stored.ensures.results stores)
     (subst (λ (k : ℕ). k ≤ 8) len c.stored_len.ensures.few)
     (sym c.accessed.ensures ∙ c.in-Some.is)
-    (subst (λ (k : ℕ). PutsWindow at (take k second) m.window c.write_held.new.window) len c.in_ok-write_held.ensures.window)
-    (subst (λ (k : ℕ). WritesSegment at (take k second) m.segment c.args.segments.now c.write_held.new.segments) len c.in_ok-write_held.ensures.segment)
-    refl c.registers.ensures.first (subst (λ (r : ℕ). IsRegister m.registers r second) c.rs2.ensures c.bytes_of.ensures)
+    (subst (λ (k : ℕ). Writes at (take k second) m c.args.memories.now c.write.new.memories) len c.in_ok-write.ensures.memory)
+    c.registers.ensures.first (subst (λ (r : ℕ). IsRegister m.registers r second) c.rs2.ensures c.bytes_of.ensures)
 
-pub write_held-requires-clause-held : goal.write_held-requires-clause-held
-write_held-requires-clause-held c = c.requires.held
+pub write-requires-clause-held : goal.write-requires-clause-held
+write-requires-clause-held c = c.requires.held
 
-pub returns-in_err-write_held-clause-keys : goal.returns-in_err-write_held-clause-keys
-returns-in_err-write_held-clause-keys c = c.write_held.ensures.keys
+pub returns-in_err-write-clause-keys : goal.returns-in_err-write-clause-keys
+returns-in_err-write-clause-keys c = c.write.ensures.keys
 
 pub returns-clause-keys : goal.returns-clause-keys
-returns-clause-keys c = c.write_held.ensures.keys
+returns-clause-keys c = c.write.ensures.keys

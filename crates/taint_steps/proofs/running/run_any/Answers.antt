@@ -9,7 +9,7 @@ returns-then-reads_nothing-clause-runs c =
     let told = c.if-reads_nothing.true in
     let first = c.registers.result.0.now in
     let second = c.registers.result.1.now in
-    cleared c.args.sets.now c.args.linkage c.args.instr c.args.before.now c.args.member.now c.clear_register.new.row c.args.segments.now first second
+    cleared c.args.sets.now c.args.linkage c.args.instr c.args.before.now c.args.member.now c.clear_register.new.row c.args.memories.now first second
     c.rd.result c.rd.ensures (c.reads_nothing.ensures.apart told) c.registers.ensures.first c.registers.ensures.second
     (c.takes_nothing.ensures c.args.linkage c.args.instr first second nothing (c.reads_nothing.ensures.first told first c.registers.ensures.first) (c.reads_nothing.ensures.second told second c.registers.ensures.second) all-zero)
     c.clear_register.ensures
@@ -26,8 +26,8 @@ returns-in_err-numbers-clause-before c = c.taken.ensures.before
 pub returns-clause-runs : goal.returns-clause-runs
 returns-clause-runs c =
     let row = c.write_register.new.row in
-    ran c.store.result c.args.sets.now c.taken.new.sets c.args.linkage c.args.instr c.args.before.now c.args.member.now c.store.new.member row c.args.segments.now c.store.new.segments c.in_ok-numbers.numbers
-    c.rd-2.result c.rd-2.ensures c.in_ok-numbers.ensures.takes c.write_register.ensures c.store.ensures.others c.store.ensures.window c.store.ensures.segment
+    ran c.store.result c.args.sets.now c.taken.new.sets c.args.linkage c.args.instr c.args.before.now c.args.member.now row c.args.memories.now c.store.new.memories c.in_ok-numbers.numbers
+    c.rd-2.result c.rd-2.ensures c.in_ok-numbers.ensures.takes c.write_register.ensures c.store.ensures.memory
 
 pub returns-clause-before : goal.returns-clause-before
 returns-clause-before c = c.taken.ensures.before

@@ -1,4 +1,4 @@
-use Rattle.std.proofs.Common.{ap, inl, sym, subst, arith}
+use Rattle.std.proofs.Common.{ap, sym, subst, arith}
 use Rattle.acts_model.specs.Transfers.{Delivers}
 use Rattle.parts_model.specs.Numbered.{nth}
 use Rattle.taint_members.specs.declared.member.MemberSets.{MemberSets}
@@ -18,12 +18,12 @@ returns c =
     ok-map c.hear_empty.result (λ nothing. λ e before len.
     if-map (nth g.members.items c.args.pid) (λ old both. record { follows = both.0; keyed = both.1 })
     (changes-group (LivesAs (DeliversAs c.args.cut)) (λ old. event_by_member c.args.pid before (Delivers c.args.pid c.args.cut) c.args.event e) g.linkage c.args.pid (plain_heard c.args.event nothing.0)
-    g.members.items c.as_mut_slice.result.now c.deliver_member.new.members _ g.segments.items g.sets g.sets (heard_of g) (heard_in c.hear_empty.new.heard)
+    g.members.items c.as_mut_slice.result.now c.deliver_member.new.members _ g.memories.items g.sets g.sets (heard_of g) (heard_in c.hear_empty.new.heard)
     c.as_mut_slice.ensures.value
     (slice-back g.members.len g.members.items c.deliver_member.new.members (omega arith))
-    nothing.2 c.requires.sound (stand-still g.sets) (lives-hold (DeliversAs c.args.cut) (λ o n to. inl (ap (λ (m : MemberSets). m.segment) to.others)))
+    nothing.2 c.requires.sound (stand-still g.sets) (lives-hold (DeliversAs c.args.cut) (λ o n to. (ap (λ (m : MemberSets). m.window) to.others, ap (λ (m : MemberSets). m.segment) to.others)))
     (λ o is m lives becomes.
     becomes-some (DeliversAs c.args.cut) o m _ _ _ _ _ _ lives becomes (λ n to next.
-    c.delivers_show.ensures _ _ c.args.pid c.args.event e before c.args.cut (kept_member g.segments.items o) (kept_member g.segments.items n) nothing.0 c.requires.sound.kept (subst (λ n. AreEmpty n nothing.0) (sym len) nothing.1)
-    (record { saved = to.saved; result = to.result; others = ap (kept_member g.segments.items) to.others }) next))
+    c.delivers_show.ensures _ _ c.args.pid c.args.event e before c.args.cut (kept_member g.memories.items o) (kept_member g.memories.items n) nothing.0 c.requires.sound.kept (subst (λ n. AreEmpty n nothing.0) (sym len) nothing.1)
+    (record { saved = to.saved; result = to.result; others = ap (kept_member g.memories.items) to.others }) next))
     c.deliver_member.ensures.delivers)) c.hear_empty.ensures

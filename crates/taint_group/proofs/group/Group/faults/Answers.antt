@@ -17,10 +17,10 @@ returns c =
     ok-map c.hear_empty.result (λ nothing. λ e before len.
     if-map (nth g.members.items c.args.pid) (λ old both. record { follows = both.0; keyed = both.1 })
     (changes-group Ends (λ old. event_by_member c.args.pid before (Faults c.args.pid) c.args.event e) g.linkage c.args.pid (plain_heard c.args.event nothing.0)
-    g.members.items c.as_mut_slice.result.now c.end_member.new.members _ g.segments.items g.sets g.sets (heard_of g) (heard_in c.hear_empty.new.heard)
+    g.members.items c.as_mut_slice.result.now c.end_member.new.members _ g.memories.items g.sets g.sets (heard_of g) (heard_in c.hear_empty.new.heard)
     c.as_mut_slice.ensures.value
     (slice-back g.members.len g.members.items c.end_member.new.members (omega arith))
     nothing.2 c.requires.sound (stand-still g.sets) ends-hold
     (λ o is m ends becomes.
-    c.faults_show.ensures _ _ c.args.pid c.args.event e before (kept_member g.segments.items o) nothing.0 c.requires.sound.kept (subst (λ n. AreEmpty n nothing.0) (sym len) nothing.1) (becomes-none _ _ _ _ _ _ _ ends becomes))
+    c.faults_show.ensures _ _ c.args.pid c.args.event e before (kept_member g.memories.items o) nothing.0 c.requires.sound.kept (subst (λ n. AreEmpty n nothing.0) (sym len) nothing.1) (becomes-none _ _ _ _ _ _ _ ends becomes))
     c.end_member.ensures.ends)) c.hear_empty.ensures

@@ -17,12 +17,12 @@ returns c =
     ok-map c.hear_empty.result (λ nothing. λ e before len.
     if-map (nth g.members.items c.args.pid) (λ old both. record { follows = both.0; keyed = both.1 })
     (changes-group (LivesAs ReturnsAs) (λ old. event_by_member c.args.pid before (Returns c.args.pid) c.args.event e) g.linkage c.args.pid (plain_heard c.args.event nothing.0)
-    g.members.items c.as_mut_slice.result.now c.return_member.new.members _ g.segments.items g.sets g.sets (heard_of g) (heard_in c.hear_empty.new.heard)
+    g.members.items c.as_mut_slice.result.now c.return_member.new.members _ g.memories.items g.sets g.sets (heard_of g) (heard_in c.hear_empty.new.heard)
     c.as_mut_slice.ensures.value
     (slice-back g.members.len g.members.items c.return_member.new.members (omega arith))
     nothing.2 c.requires.sound (stand-still g.sets) returned-holds
     (λ o is m lives becomes.
     becomes-some ReturnsAs o m _ _ _ _ _ _ lives becomes (λ n to next.
-    c.returns_show.ensures _ _ c.args.pid c.args.event e before (kept_member g.segments.items o) (kept_member g.segments.items n) nothing.0 c.requires.sound.kept (subst (λ n. AreEmpty n nothing.0) (sym len) nothing.1)
-    (record { result = to.result; others = ap (kept_member g.segments.items) to.others }) next))
+    c.returns_show.ensures _ _ c.args.pid c.args.event e before (kept_member g.memories.items o) (kept_member g.memories.items n) nothing.0 c.requires.sound.kept (subst (λ n. AreEmpty n nothing.0) (sym len) nothing.1)
+    (record { result = to.result; others = ap (kept_member g.memories.items) to.others }) next))
     (returns-change c.args.pid c.as_mut_slice.result.now c.return_member.new.members c.return_member.ensures.returns))) c.hear_empty.ensures
