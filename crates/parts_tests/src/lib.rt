@@ -14,8 +14,6 @@ mod groups;
 #[cfg(test)]
 mod images;
 #[cfg(test)]
-mod numbered;
-#[cfg(test)]
 mod origins;
 #[cfg(test)]
 mod pipes;
@@ -27,5 +25,7 @@ mod processes;
 mod same;
 #[cfg(test)]
 mod signals;
+#[cfg(test)]
+mod values;
 #[cfg(test)]
 mod windows;
