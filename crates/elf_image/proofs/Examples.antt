@@ -1,6 +1,6 @@
 -- The definition at literal files.
 use Rattle.std.proofs.Common.{◌≡◌, ℕ, ◌++◌, true, false, List, [], ◌∷◌, Some, replicate, take, set, refl}
-use Rattle.elf_image.specs.Elf.{is_elf, elf_of}
+use Rattle.elf_image.specs.Elf.{elf_of, has_sizes, is_elf, is_long}
 
 -- a file header of an executable with so many program headers
 file_header : ℕ → List ℕ
@@ -37,6 +37,15 @@ elf-whole-file :
     × (is_elf (set whole_file 26 5) ≡ false)
 unfolding whole_file file_header header_of
 elf-whole-file = (refl, refl, refl, refl, refl, refl, refl, refl, refl, refl)
+
+-- 1 to 64 headers, and 64 bytes at least
+elf-limits :
+    (has_sizes (set whole_file 56 64) ≡ true)
+    × (has_sizes (set whole_file 56 65) ≡ false)
+    × (is_long (take 64 whole_file) ≡ true)
+    × (is_long (take 63 whole_file) ≡ false)
+unfolding whole_file file_header header_of
+elf-limits = (refl, refl, refl, refl)
 
 -- a second header, behind one that is loaded
 two_headers : List ℕ → List ℕ

@@ -4,7 +4,7 @@ ghost use Rattle.acts_model.specs.Views.{bytes_in, can_reach, reach, read, stand
 ghost use Rattle.guest_bodies.specs.Kept.{AreThere, contents_of, refilled, released, segment_part, view_of, window_part, windows_for};
 ghost use Rattle.guest_bodies.specs.Led.{LedFails, LedMany};
 ghost use Rattle.guest_bodies.specs.Running.{LeadsMany, StopsAt, stop_count};
-ghost use Rattle.guest_bodies.specs.Tables.{Adds, IfHeld, held_bytes};
+ghost use Rattle.guest_bodies.specs.Tables.{Adds, held_bytes};
 ghost use Rattle.guest_bodies.specs.Told.{IsStop};
 ghost use Rattle.guest_mem.specs.Pages.{IsEnough, NoneOwn};
 ghost use Rattle.parts_model.specs.Blocks.{blocks_of};

@@ -1,4 +1,4 @@
-// The memories that a process reaches which holds a segment.
+// The memories of a process that holds a segment.
 ghost use Rattle.std.specs.Prelude.{◌≡◌, not, length};
 ghost use Rattle.std.specs.List.{list_any};
 ghost use Rattle.arn_base.specs.Window.{with_bytes};

@@ -1,5 +1,5 @@
 // Values by number.
-ghost use Rattle.std.specs.Prelude.{◌≡◌, ◌≢◌, ◌<◌, ◌≤◌, ℕ, [], length, is_some, slice_set, Some, None, IsSome, OnOk, OnErr, IfOk, option_copied};
+ghost use Rattle.std.specs.Prelude.{◌≡◌, ◌≢◌, ◌<◌, ◌≤◌, ◌+◌, ℕ, [], length, max, is_some, slice_set, Some, None, IsSome, OnOk, OnErr, IfOk, option_copied};
 ghost use Rattle.std.specs.Borrow.{Lends, sem};
 ghost use Rattle.std.specs.contracts.option.Option.{the_row};
 ghost use Rattle.parts_model.specs.Numbered.{nth};
@@ -119,6 +119,7 @@ impl<T: Drop> Numbered<T> {
     /// Makes room for a value under a number.
     pub fn make_room(&mut self, number: u32) -> Result<(), NoMemory>
         ensures room { OnOk result (number < length self.new) }
+        ensures len { OnOk result (length self.new ≡ max (length self.old) (number + 1)) }
         ensures longer { length self.old ≤ length self.new }
         ensures same { (n : ℕ) → nth self.new n ≡ nth self.old n }
         ensures err { OnErr result (self.new ≡ self.old) }
@@ -141,18 +142,6 @@ impl<T: Drop> Numbered<T> {
         ensures { self.new ≡ slice_set self.old number (Some value) }
     {
         self.items[number] = Some(value);
-    }
-
-    /// Makes room for a value under a number, and puts it there.
-    pub fn place(&mut self, number: u32, value: T) -> Result<(), NoMemory>
-        ensures one { OnOk result (nth self.new number ≡ Some value) }
-        ensures others { OnOk result
-            ((n : ℕ) → n ≢ number → nth self.new n ≡ nth self.old n) }
-        ensures err { OnErr result (self.new ≡ self.old) }
-    {
-        self.make_room(number)?;
-        self.put(number as usize, value);
-        Ok(())
     }
 
     /// Takes the value of a number away, if it has one.
@@ -187,6 +176,7 @@ impl<T: Drop> Numbered<T> {
     /// The first number that has no value: the next one, where each has one.
     pub fn free(&self) -> usize
         ensures none { nth self.now result ≡ None }
+        ensures first { (n : ℕ) → n < result → IsSome (nth self.now n) }
         ensures few { result ≤ length self.now }
     {
         for (number, slot) in self.items.iter().enumerate() {
@@ -197,10 +187,11 @@ impl<T: Drop> Numbered<T> {
         self.items.len()
     }
 
-    /// A number that has no value, with room for one.
+    /// The first number that has no value, with room for one.
     pub fn free_room(&mut self) -> Result<usize, NoMemory>
         ensures room { IfOk result (λ number. number < length self.new) }
         ensures none { IfOk result (λ number. nth self.new number ≡ None) }
+        ensures first { IfOk result (λ number. (n : ℕ) → n < number → IsSome (nth self.old n)) }
         ensures longer { length self.old ≤ length self.new }
         ensures same { (n : ℕ) → nth self.new n ≡ nth self.old n }
         ensures err { OnErr result (self.new ≡ self.old) }
@@ -211,9 +202,11 @@ impl<T: Drop> Numbered<T> {
         }
         Ok(number)
     }
-    /// Puts a value under a number that has none, and says which.
+
+    /// Puts a value under the first number that has none, and says which.
     pub fn add(&mut self, value: T) -> Result<usize, NoMemory>
         ensures none { IfOk result (λ number. nth self.old number ≡ None) }
+        ensures first { IfOk result (λ number. (n : ℕ) → n < number → IsSome (nth self.old n)) }
         ensures one { IfOk result (λ number. nth self.new number ≡ Some value) }
         ensures others { IfOk result (λ number.
             (n : ℕ) → n ≢ number → nth self.new n ≡ nth self.old n) }

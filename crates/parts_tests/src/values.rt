@@ -9,7 +9,8 @@ fn values_stand_under_their_numbers(rt: HostRuntime) -> Result<(), Fail> {
     let second = values.add(8)?;
     assert_same(&rt, first, 0);
     assert_same(&rt, second, 1);
-    values.place(3, 9)?;
+    values.make_room(3)?;
+    values.put(3, 9);
     assert_same(&rt, values.len(), 4);
     assert_same(&rt, values.get(1).copied(), Some(8));
     assert_same(&rt, values.get(2).copied(), None);
