@@ -25,7 +25,7 @@ use Rattle.taint_state.specs.Kept.{KeptHeard, KeptMember}
 use Rattle.taint_group.specs.Moves.{AreHeldOnce, BeginsAs, HasChild, IsChildOf, MaySeat, ReceivesEntry, ReceivesIn, ReceivesOne, Seats, seated}
 use Rattle.taint_state.specs.RunsShow.{kept_member}
 use Rattle.taint_group.specs.Tables.{AreKeyed, AreSoundTables, HasKeyBy, kept_in}
-use Rattle.taint_group.specs.declared.memories.Kind.TheVariants.{Segment, Window}
+use Rattle.taint_group.specs.declared.memories.MemoryKind.TheVariants.{Segment, Window}
 use Rattle.taint_group.proofs.Keyed.{HoldsSame, at-some, keyed-from, nth-map, same-but}
 use Rattle.taint_group.proofs.Seating.{ShareSegment, held-once, seat-keyed, seat-seen}
 use Rattle.taint_group.proofs.TablesReceiving.{tables-receive}

@@ -14,8 +14,8 @@ use Rattle.taint_state.specs.Kept.{KeptMember}
 use Rattle.taint_state.specs.RunsShow.{kept_member}
 use Rattle.taint_group.specs.Moves.{IsKeyBy, PutsMemory}
 use Rattle.taint_group.specs.Tables.{AreKeyed, HasKeyBy, HaveOneKey, held_of}
-use Rattle.taint_group.specs.declared.memories.Kind.{Kind}
-use Rattle.taint_group.specs.declared.memories.Kind.TheVariants.{Segment, Window}
+use Rattle.taint_group.specs.declared.memories.MemoryKind.{MemoryKind}
+use Rattle.taint_group.specs.declared.memories.MemoryKind.TheVariants.{Segment, Window}
 
 pub at-some : {X : Type 0} (P : X → Type 0) (o : Option X) (x : X) → o ≡ Some x → IfSome o P → P x
 at-some P o x e h = subst (λ k. IfSome k P) e h
@@ -35,7 +35,7 @@ pub holds-itself : (o : Option MemberSets) → HoldsSame o o
 holds-itself None = tt
 holds-itself (Some m) = (refl, refl)
 
-same-held : (kind : Kind) (m old : MemberSets) → (m.window ≡ old.window) × (m.segment ≡ old.segment) → held_of kind m ≡ held_of kind old
+same-held : (kind : MemoryKind) (m old : MemberSets) → (m.window ≡ old.window) × (m.segment ≡ old.segment) → held_of kind m ≡ held_of kind old
 same-held Window m old e = ap (λ (h : Held). Some h) e.0
 same-held Segment m old e = e.1
 
@@ -43,12 +43,12 @@ key-there : (s : Option Held) (x y : Memories) → length x ≤ length y → Hol
 key-there None x y e h = tt
 key-there (Some s) x y e h = omega arith
 
-held-by : (kind : Kind) (x y : Memories) (a c : Option MemberSets) → length x ≤ length y → HoldsSame a c → IfSome c (λ (k : MemberSets). HoldsKey (held_of kind k) x) → IfSome a (λ (k : MemberSets). HoldsKey (held_of kind k) y)
+held-by : (kind : MemoryKind) (x y : Memories) (a c : Option MemberSets) → length x ≤ length y → HoldsSame a c → IfSome c (λ (k : MemberSets). HoldsKey (held_of kind k) x) → IfSome a (λ (k : MemberSets). HoldsKey (held_of kind k) y)
 held-by kind x y None c e same h = tt
 held-by kind x y (Some k) None e same h = absurd same
 held-by kind x y (Some k) (Some j) e same h = subst (λ s. HoldsKey s y) (sym (same-held kind k j same)) (key-there (held_of kind j) x y e h)
 
-once-by : (kind other : Kind) (a b c d : Option MemberSets) → HoldsSame a c → HoldsSame b d → IfSome c (λ (k : MemberSets). IfSome d (λ (j : MemberSets). HaveOneKey kind other (held_of kind k) (held_of other j)))
+once-by : (kind other : MemoryKind) (a b c d : Option MemberSets) → HoldsSame a c → HoldsSame b d → IfSome c (λ (k : MemberSets). IfSome d (λ (j : MemberSets). HaveOneKey kind other (held_of kind k) (held_of other j)))
     → IfSome a (λ (k : MemberSets). IfSome b (λ (j : MemberSets). HaveOneKey kind other (held_of kind k) (held_of other j)))
 once-by kind other None b c d e f h = tt
 once-by kind other (Some k) None c d e f h = tt
@@ -87,7 +87,7 @@ ready-of x p keyed = of (nth x.members p) refl
     of None e = tt
     of (Some m) e = keys-of x p m keyed e
 
-pub once-of : (x : Tables) (p q : ℕ) (m n : MemberSets) → AreKeyed x → nth x.members p ≡ Some m → nth x.members q ≡ Some n → (kind other : Kind) → HaveOneKey kind other (held_of kind m) (held_of other n)
+pub once-of : (x : Tables) (p q : ℕ) (m n : MemberSets) → AreKeyed x → nth x.members p ≡ Some m → nth x.members q ≡ Some n → (kind other : MemoryKind) → HaveOneKey kind other (held_of kind m) (held_of other n)
 once-of x p q m n keyed e f kind other =
     at-some (λ (j : MemberSets). HaveOneKey kind other (held_of kind m) (held_of other j)) (nth x.members q) n f
     (at-some (λ (k : MemberSets). IfSome (nth x.members q) (λ (j : MemberSets). HaveOneKey kind other (held_of kind k) (held_of other j))) (nth x.members p) m e (keyed.once kind other p q))
@@ -106,16 +106,16 @@ two-of x p m keyed e = of m.segment (once-of x p p m m keyed e e Window Segment)
     of (Some s) h = λ same. kinds-differ (h.1 same).0
 
 -- what another sees of a member, where no memory but one of the member's is written
-module _ (old new : Memories) (m other : MemberSets) (own : Kind) (g : Held) (holds : held_of own m ≡ Some g) (others : (k : ℕ) → k ≢ g.key → slice_index_or new k [] ≡ slice_index_or old k [])
-    (once : (kind one : Kind) → HaveOneKey kind one (held_of kind other) (held_of one m)) where
+module _ (old new : Memories) (m other : MemberSets) (own : MemoryKind) (g : Held) (holds : held_of own m ≡ Some g) (others : (k : ℕ) → k ≢ g.key → slice_index_or new k [] ≡ slice_index_or old k [])
+    (once : (kind one : MemoryKind) → HaveOneKey kind one (held_of kind other) (held_of one m)) where
   -- a memory of another name has another key
-  apart : (kind : Kind) (h : Held) → held_of kind other ≡ Some h → ((r : Held) → held_of kind m ≡ Some r → h.made ≢ r.made) → slice_index_or new h.key [] ≡ slice_index_or old h.key []
+  apart : (kind : MemoryKind) (h : Held) → held_of kind other ≡ Some h → ((r : Held) → held_of kind m ≡ Some r → h.made ≢ r.made) → slice_index_or new h.key [] ≡ slice_index_or old h.key []
   apart kind h has differs = others h.key (λ same. let both = by.1 same in differs g (subst (λ k. held_of k m ≡ Some g) (sym both.0) holds) both.1)
     where
       by : ((kind ≡ own) × (h.made ≡ g.made)) ↔ (h.key ≡ g.key)
       by = subst (λ o. HasKeyBy own g.made g.key kind o) has (subst (λ o. HaveOneKey kind own (held_of kind other) o) holds (once kind own))
 
-  one-key : (kind : Kind) (h r : Held) → held_of kind other ≡ Some h → held_of kind m ≡ Some r → h.made ≡ r.made → h.key ≡ r.key
+  one-key : (kind : MemoryKind) (h r : Held) → held_of kind other ≡ Some h → held_of kind m ≡ Some r → h.made ≡ r.made → h.key ≡ r.key
   one-key kind h r has is same = (subst (λ o. HasKeyBy kind r.made r.key kind o) has (subst (λ o. HaveOneKey kind kind (held_of kind other) o) is (once kind kind))).0 (refl, same)
 
   some-held : (a b : Held) → Some a ≡ Some b → a ≡ b
@@ -146,7 +146,7 @@ module _ (old new : Memories) (m other : MemberSets) (own : Kind) (g : Held) (ho
       (segment-seen other.segment m.segment refl refl (is_one (made_of other.segment) (made_of m.segment)) refl)
 
 -- so do all others in tables
-pub tables-seen : (x y : Tables) (pid : ℕ) (m : MemberSets) (own : Kind) (g : Held) → AreKeyed y → nth y.members pid ≡ Some m → held_of own m ≡ Some g
+pub tables-seen : (x y : Tables) (pid : ℕ) (m : MemberSets) (own : MemoryKind) (g : Held) → AreKeyed y → nth y.members pid ≡ Some m → held_of own m ≡ Some g
     → ((k : ℕ) → k ≢ g.key → slice_index_or y.memories k [] ≡ slice_index_or x.memories k []) → ((p : ℕ) → p ≢ pid → nth y.members p ≡ nth x.members p)
     → PutsSeen pid (kept_member y.memories m) (map (option_map (kept_member x.memories)) x.members) (map (option_map (kept_member y.memories)) y.members)
 tables-seen x y pid m own g keyed one holds others same = record {
@@ -163,7 +163,7 @@ tables-seen x y pid m own g keyed one holds others same = record {
 
 -- a write leaves all memories but one of the member's
 pub record WritesOwn (m : MemberSets) (old new : Memories) : Type 0 where
-  pub kind : Kind
+  pub kind : MemoryKind
   pub held : Held
   pub holds : held_of kind m ≡ Some held
   pub others : (k : ℕ) → k ≢ held.key → slice_index_or new k [] ≡ slice_index_or old k []
@@ -188,28 +188,28 @@ stores-own None numbers m old new w = nothing-written m old new w
 stores-own (Some at) numbers m old new w = writes-own at numbers m old new w
 
 -- where a memory that a member holds is from: it was put, or a member held it before, or there is none
-abbrev pub IsFrom : Kind → Held → Tables → Kind → MemberSets → Type 0
+abbrev pub IsFrom : MemoryKind → Held → Tables → MemoryKind → MemberSets → Type 0
 IsFrom put shared x kind m =
     ((kind ≡ put) × (held_of kind m ≡ Some shared)) ⊎ (((q : ℕ) × (n : MemberSets) × (nth x.members q ≡ Some n) × (held_of kind m ≡ held_of kind n)) ⊎ (held_of kind m ≡ None))
 
 -- a memory is put under the key of its own
-module _ (put : Kind) (event key : ℕ) (fresh : List ℕ) (x y : Tables) (keyed : AreKeyed x) (own : IsKeyBy put event key x.members) (puts : PutsMemory key fresh x.memories y.memories)
-    (from : (kind : Kind) (p : ℕ) (m : MemberSets) → nth y.members p ≡ Some m → IsFrom put (record { made = event; key = key }) x kind m) where
+module _ (put : MemoryKind) (event key : ℕ) (fresh : List ℕ) (x y : Tables) (keyed : AreKeyed x) (own : IsKeyBy put event key x.members) (puts : PutsMemory key fresh x.memories y.memories)
+    (from : (kind : MemoryKind) (p : ℕ) (m : MemberSets) → nth y.members p ≡ Some m → IsFrom put (record { made = event; key = key }) x kind m) where
   abbrev shared : Held
   shared = record { made = event; key = key }
 
-  flip : (kind : Kind) (o : Option Held) → HasKeyBy put event key kind o → HaveOneKey put kind (Some shared) o
+  flip : (kind : MemoryKind) (o : Option Held) → HasKeyBy put event key kind o → HaveOneKey put kind (Some shared) o
   flip kind None h = tt
   flip kind (Some s) h = ((λ e. sym (h.0 (sym e.0, sym e.1))), λ e. let both = h.1 (sym e) in (sym both.0, sym both.1))
 
-  none-one : (kind other : Kind) (o : Option Held) → HaveOneKey kind other None o
+  none-one : (kind other : MemoryKind) (o : Option Held) → HaveOneKey kind other None o
   none-one kind other None = tt
   none-one kind other (Some s) = tt
 
-  own-of : (kind : Kind) (q : ℕ) (n : MemberSets) → nth x.members q ≡ Some n → HasKeyBy put event key kind (held_of kind n)
+  own-of : (kind : MemoryKind) (q : ℕ) (n : MemberSets) → nth x.members q ≡ Some n → HasKeyBy put event key kind (held_of kind n)
   own-of kind q n e = at-some (λ (k : MemberSets). HasKeyBy put event key kind (held_of kind k)) (nth x.members q) n e (own kind q)
 
-  pair : (kind other : Kind) (m n : MemberSets) → IsFrom put shared x kind m → IsFrom put shared x other n → HaveOneKey kind other (held_of kind m) (held_of other n)
+  pair : (kind other : MemoryKind) (m n : MemberSets) → IsFrom put shared x kind m → IsFrom put shared x other n → HaveOneKey kind other (held_of kind m) (held_of other n)
   pair kind other m n (inr (inr e)) g = subst (λ o. HaveOneKey kind other o (held_of other n)) (sym e) (none-one kind other (held_of other n))
   pair kind other m n (inl e) (inl g) =
       subst (λ o. HaveOneKey kind other o (held_of other n)) (sym e.1) (subst (HaveOneKey kind other (Some shared)) (sym g.1) ((λ h. refl), λ h. (e.0 ∙ sym g.0, refl)))
@@ -224,7 +224,7 @@ module _ (put : Kind) (event key : ℕ) (fresh : List ℕ) (x y : Tables) (keyed
       subst (λ o. HaveOneKey kind other o (held_of other n)) (sym e.3) (subst (HaveOneKey kind other (held_of kind e.1)) (sym g.3) (once-of x e.0 g.0 e.1 g.1 keyed e.2 g.2 kind other))
   pair kind other m n (inr (inl e)) (inr (inr g)) = subst (HaveOneKey kind other (held_of kind m)) (sym g) tt
 
-  there : (kind : Kind) (m : MemberSets) → IsFrom put shared x kind m → HoldsKey (held_of kind m) y.memories
+  there : (kind : MemoryKind) (m : MemberSets) → IsFrom put shared x kind m → HoldsKey (held_of kind m) y.memories
   there kind m (inl e) = subst (λ o. HoldsKey o y.memories) (sym e.1) puts.there
   there kind m (inr (inl e)) =
       subst (λ o. HoldsKey o y.memories) (sym e.3) (key-there (held_of kind e.1) x.memories y.memories puts.grown
@@ -236,11 +236,11 @@ module _ (put : Kind) (event key : ℕ) (fresh : List ℕ) (x y : Tables) (keyed
     held = λ kind p. held kind p (nth y.members p) refl;
     once = λ kind other p q. once kind other p q (nth y.members p) (nth y.members q) refl refl;
   } where
-    held : (kind : Kind) (p : ℕ) (o : Option MemberSets) → nth y.members p ≡ o → IfSome o (λ (m : MemberSets). HoldsKey (held_of kind m) y.memories)
+    held : (kind : MemoryKind) (p : ℕ) (o : Option MemberSets) → nth y.members p ≡ o → IfSome o (λ (m : MemberSets). HoldsKey (held_of kind m) y.memories)
     held kind p None e = tt
     held kind p (Some m) e = there kind m (from kind p m e)
 
-    once : (kind other : Kind) (p q : ℕ) (o r : Option MemberSets) → nth y.members p ≡ o → nth y.members q ≡ r → IfSome o (λ (m : MemberSets). IfSome r (λ (n : MemberSets). HaveOneKey kind other (held_of kind m) (held_of other n)))
+    once : (kind other : MemoryKind) (p q : ℕ) (o r : Option MemberSets) → nth y.members p ≡ o → nth y.members q ≡ r → IfSome o (λ (m : MemberSets). IfSome r (λ (n : MemberSets). HaveOneKey kind other (held_of kind m) (held_of other n)))
     once kind other p q None r e f = tt
     once kind other p q (Some m) None e f = tt
     once kind other p q (Some m) (Some n) e f = pair kind other m n (from kind p m e) (from other q n f)

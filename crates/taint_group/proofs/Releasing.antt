@@ -1,6 +1,7 @@
 -- Memories that no member holds are let go of.
-use Rattle.std.proofs.Common.{◌≡◌, ◌≢◌, ◌⊎◌, inl, inr, ℕ, suc, ◌+◌, ◌<◌, ◌≤◌, List, [], ◌∷◌, map, length, slice_set, Option, Some, None, IfSome, option_map, refl, sym, subst, ap, ◌∙◌, arith}
-use Rattle.std.proofs.lemmas.List.{get_or-set_other, length-set}
+use Rattle.std.proofs.Common.{◌≡◌, ◌≢◌, ◌⊎◌, inl, inr, ℕ, suc, ◌+◌, ◌==◌, true, false, ◌<◌, ◌≤◌, List, [], ◌∷◌, map, length, slice_index_or, slice_set, Option, Some, None, IfSome, option_map, refl, sym, subst, ap, ◌∙◌, arith}
+use Rattle.std.proofs.lemmas.Bool.{ne_eqb}
+use Rattle.std.proofs.lemmas.List.{get_or-set_other, get_or-set_same, get_or_past, length-set}
 use Rattle.parts_model.specs.Numbered.{nth}
 use Rattle.taint_members.specs.Access.{Memories, held_numbers}
 use Rattle.taint_members.specs.declared.member.Held.{Held}
@@ -12,41 +13,90 @@ use Rattle.taint_state.specs.RunsShow.{kept_member}
 use Rattle.taint_state.specs.Sound.{IsSound}
 use Rattle.taint_group.specs.Moves.{HasNoKey, IsFree, Releases}
 use Rattle.taint_group.specs.Tables.{AreSoundTables, held_of, kept_in}
-use Rattle.taint_group.specs.declared.memories.Kind.{Kind}
-use Rattle.taint_group.specs.declared.memories.Kind.TheVariants.{Segment, Window}
+use Rattle.taint_group.specs.declared.memories.MemoryKind.{MemoryKind}
+use Rattle.taint_group.specs.declared.memories.MemoryKind.TheVariants.{Segment, Window}
 use Rattle.taint_group.proofs.Groups.{tables_with}
 use Rattle.taint_group.proofs.Keyed.{at-some, holds-itself, keyed-from}
 use Rattle.taint_group.proofs.Sharing.{below-or}
 use Rattle.taint_group.proofs.Turning.{nth-past}
 
--- one entry more doesn't hold it
-pub free-more : (key : ℕ) (members : List (Option MemberSets)) (i : ℕ) (item : Option MemberSets) → ((p : ℕ) → p < i → HasNoKey key (nth members p)) → nth members i ≡ item → HasNoKey key item
-    → (p : ℕ) → p < i + 1 → HasNoKey key (nth members p)
-free-more key members i item none is last p below = split (below-or p i)
+pub is-empty : (xs : List ℕ) → length xs ≡ 0 → xs ≡ []
+is-empty [] e = refl
+is-empty (x ∷ xs) e = absurd (omega (arith, e))
+
+pub true-false : true ≡ false → ⊥
+true-false e = absurd (cc)
+
+-- the memory of a member has another key than one that it doesn't hold
+pub holds-other : (key : ℕ) (entry : Option MemberSets) (m : MemberSets) (kind : MemoryKind) (h : Held) → entry ≡ Some m → held_of kind m ≡ Some h → HasNoKey key entry → (h.key == key) ≡ false
+holds-other key entry m kind h e f none =
+    ne_eqb h.key key (at-some (λ (held : Held). held.key ≢ key) (held_of kind m) h f (at-some (λ (k : MemberSets). IfSome (held_of kind k) (λ (held : Held). held.key ≢ key)) entry m e (none kind)))
+
+-- one entry before those that don't hold it
+pub free-before : (key : ℕ) (members : List (Option MemberSets)) (i : ℕ) (item : Option MemberSets) → ((p : ℕ) → i + 1 ≤ p → HasNoKey key (nth members p)) → nth members i ≡ item → HasNoKey key item
+    → (p : ℕ) → i ≤ p → HasNoKey key (nth members p)
+free-before key members i item none is first p from = split (below-or i p)
   where
-    split : (p < i) ⊎ (i ≤ p) → HasNoKey key (nth members p)
-    split (inl before) = none p before
+    split : (i < p) ⊎ (p ≤ i) → HasNoKey key (nth members p)
+    split (inl after) = none p (omega (arith, after))
     split (inr past) =
-        let same : p ≡ i = omega arith in
-        subst (HasNoKey key) (sym (ap (nth members) same ∙ is)) last
+        let same : p ≡ i = omega (arith, past, from) in
+        subst (HasNoKey key) (sym (ap (nth members) same ∙ is)) first
 
-pub free-all : (key : ℕ) (members : List (Option MemberSets)) → ((p : ℕ) → p < length members → HasNoKey key (nth members p)) → IsFree key members
-free-all key members none p = split (below-or p (length members))
+pub free-past : (key : ℕ) (members : List (Option MemberSets)) (p : ℕ) → length members ≤ p → HasNoKey key (nth members p)
+free-past key members p past = subst (HasNoKey key) (sym (nth-past members p past)) (λ kind. tt)
+
+-- the first memories are let go of where no member holds them
+pub record ReleasesTo (members : List (Option MemberSets)) (old new : Memories) (first : ℕ) : Type 0 where
+  pub count : length new ≡ length old
+  pub same : (key : ℕ) → (IsFree key members → ⊥) → slice_index_or new key [] ≡ slice_index_or old key []
+  pub gone : (key : ℕ) → key < first → IsFree key members → slice_index_or new key [] ≡ []
+
+pub released-none : (members : List (Option MemberSets)) (memories : Memories) → ReleasesTo members memories memories 0
+released-none members memories = record { count = refl; same = λ key held. refl; gone = λ key below. absurd (omega (arith, below)) }
+
+-- one memory more is held
+pub released-held : (members : List (Option MemberSets)) (first list : Memories) (key : ℕ) → ReleasesTo members first list key → (IsFree key members → ⊥) → ReleasesTo members first list (key + 1)
+released-held members first list key so held = record {
+  count = so.count;
+  same = so.same;
+  gone = λ k below free. split k free (below-or k key) below;
+}
   where
-    split : (p < length members) ⊎ (length members ≤ p) → HasNoKey key (nth members p)
-    split (inl below) = none p below
-    split (inr past) = subst (HasNoKey key) (sym (nth-past members p past)) (λ kind. tt)
+    split : (k : ℕ) → IsFree k members → (k < key) ⊎ (key ≤ k) → k < key + 1 → slice_index_or list k [] ≡ []
+    split k free (inl before) below = so.gone k before free
+    split k free (inr past) below =
+        let same : k ≡ key = omega (arith, past, below) in
+        absurd (held (subst (λ j. IsFree j members) same free))
 
-pub released-first : (members : List (Option MemberSets)) (memories : Memories) → Releases members memories memories
-released-first members memories = record { count = refl; same = λ key held. refl }
-
-pub released-more : (members : List (Option MemberSets)) (first list : Memories) (key : ℕ) (new : List ℕ) → Releases members first list → IsFree key members → Releases members first (slice_set list key new)
-released-more members first list key new so free = record {
+-- one memory more is let go of
+pub released-more : (members : List (Option MemberSets)) (first list : Memories) (key : ℕ) (new : List ℕ) → ReleasesTo members first list key → IsFree key members → key < length list → new ≡ []
+    → ReleasesTo members first (slice_set list key new) (key + 1)
+released-more members first list key new so free there none = record {
   count = length-set list key new ∙ so.count;
   same = λ k held. get_or-set_other list key k new [] (λ e. held (subst (λ j. IsFree j members) (sym e) free)) ∙ so.same k held;
+  gone = λ k below other. split k other (below-or k key) below;
 }
+  where
+    split : (k : ℕ) → IsFree k members → (k < key) ⊎ (key ≤ k) → k < key + 1 → slice_index_or (slice_set list key new) k [] ≡ []
+    split k other (inl before) below = get_or-set_other list key k new [] (λ e. absurd (omega (arith, before, e))) ∙ so.gone k before other
+    split k other (inr past) below =
+        let same : k ≡ key = omega (arith, past, below) in
+        ap (λ j. slice_index_or (slice_set list key new) j []) same ∙ (get_or-set_same list key new [] there ∙ none)
 
-not-free : (members : List (Option MemberSets)) (p : ℕ) (m : MemberSets) (kind : Kind) (h : Held) → nth members p ≡ Some m → held_of kind m ≡ Some h → IsFree h.key members → ⊥
+-- all are
+pub released-all : (members : List (Option MemberSets)) (old new : Memories) (count : ℕ) → ReleasesTo members old new count → length new ≤ count → Releases members old new
+released-all members old new count so most = record {
+  count = so.count;
+  same = so.same;
+  gone = λ k free. split k free (below-or k count);
+}
+  where
+    split : (k : ℕ) → IsFree k members → (k < count) ⊎ (count ≤ k) → slice_index_or new k [] ≡ []
+    split k free (inl before) = so.gone k before free
+    split k free (inr past) = get_or_past new k [] (omega (arith, past, most))
+
+not-free : (members : List (Option MemberSets)) (p : ℕ) (m : MemberSets) (kind : MemoryKind) (h : Held) → nth members p ≡ Some m → held_of kind m ≡ Some h → IsFree h.key members → ⊥
 not-free members p m kind h e f free =
     at-some (λ (held : Held). held.key ≢ h.key) (held_of kind m) h f (at-some (λ (k : MemberSets). IfSome (held_of kind k) (λ (held : Held). held.key ≢ h.key)) (nth members p) m e (free p kind)) refl
 

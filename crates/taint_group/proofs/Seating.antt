@@ -9,8 +9,8 @@ use Rattle.taint_state.specs.Events.{PutsSeen}
 use Rattle.taint_state.specs.RunsShow.{kept_member}
 use Rattle.taint_group.specs.Moves.{AreHeldOnce, Seats, seated}
 use Rattle.taint_group.specs.Tables.{AreKeyed}
-use Rattle.taint_group.specs.declared.memories.Kind.{Kind}
-use Rattle.taint_group.specs.declared.memories.Kind.TheVariants.{Segment, Window}
+use Rattle.taint_group.specs.declared.memories.MemoryKind.{MemoryKind}
+use Rattle.taint_group.specs.declared.memories.MemoryKind.TheVariants.{Segment, Window}
 use Rattle.taint_group.proofs.Keyed.{IsFrom, puts-keyed, tables-seen}
 
 some-same : (a b : MemberSets) → Some a ≡ Some b → a ≡ b
@@ -24,14 +24,14 @@ module _ (pid event : ℕ) (m : NewMember) (x y : Tables) (keyed : AreKeyed x) (
   abbrev pub new : MemberSets
   new = seated m event seats.key
 
-  from-new : (kind : Kind) → IsFrom Window (record { made = event; key = seats.key }) x kind new
+  from-new : (kind : MemoryKind) → IsFrom Window (record { made = event; key = seats.key }) x kind new
   from-new Window = inl (refl, refl)
   from-new Segment = inr shares
 
   pub seat-keyed : AreKeyed y
   seat-keyed = puts-keyed Window event seats.key m.window x y keyed seats.own seats.put (λ kind p k e. from kind p k e (p == pid) refl)
     where
-      from : (kind : Kind) (p : ℕ) (k : MemberSets) → nth y.members p ≡ Some k → (b : Bool) → (p == pid) ≡ b → IsFrom Window (record { made = event; key = seats.key }) x kind k
+      from : (kind : MemoryKind) (p : ℕ) (k : MemberSets) → nth y.members p ≡ Some k → (b : Bool) → (p == pid) ≡ b → IsFrom Window (record { made = event; key = seats.key }) x kind k
       from kind p k e true t =
           let both : Some new ≡ Some k = sym seats.placed.one ∙ (ap (λ q. nth y.members q) (sym (eqb-true p pid t)) ∙ e) in
           subst (λ n. IsFrom Window (record { made = event; key = seats.key }) x kind n) (some-same new k both) (from-new kind)

@@ -18,8 +18,8 @@ use Rattle.taint_state.specs.Kept.{KeptHeard}
 use Rattle.taint_group.specs.Moves.{AreHeldOnce, IsFree, IsFreshSegment, IsKeyBy, PutsMemory, SharesAs, held_key, key_made}
 use Rattle.taint_state.specs.RunsShow.{kept_member}
 use Rattle.taint_group.specs.Tables.{AreKeyed, AreSoundTables, HasKeyBy, HaveOneKey, held_of, kept_in}
-use Rattle.taint_group.specs.declared.memories.Kind.{Kind}
-use Rattle.taint_group.specs.declared.memories.Kind.TheVariants.{Segment, Window}
+use Rattle.taint_group.specs.declared.memories.MemoryKind.{MemoryKind}
+use Rattle.taint_group.specs.declared.memories.MemoryKind.TheVariants.{Segment, Window}
 use Rattle.taint_group.specs.Turns.{ChangesIn, ChangesOne, LivesAs}
 use Rattle.taint_group.proofs.Groups.{tables_with}
 use Rattle.taint_group.proofs.Joining.{GoesAt, goes-there, tables-there}
@@ -72,10 +72,10 @@ module _ (linkage : Linkage) (heard then : List KeptHeard) (pid event key : ℕ)
         ∙ ap (λ l. record (kept_member memories old) { holds = record { window = old.window.made; segment = Some event }; registers = new.registers; segment = l }) (ap (λ s. held_numbers s written) (sym segment)));
   }
 
-  from : (kind : Kind) (p : ℕ) (k : MemberSets) → nth after p ≡ Some k → IsFrom Segment shared x kind k
+  from : (kind : MemoryKind) (p : ℕ) (k : MemberSets) → nth after p ≡ Some k → IsFrom Segment shared x kind k
   from kind p k e = by_test kind (p == pid) refl
     where
-      by_test : (kind : Kind) (b : Bool) → (p == pid) ≡ b → IsFrom Segment shared x kind k
+      by_test : (kind : MemoryKind) (b : Bool) → (p == pid) ≡ b → IsFrom Segment shared x kind k
       by_test Segment true same = inl (refl, sym (ap (λ (k : MemberSets). k.segment) (is-new same)) ∙ segment)
         where
           is-new : (p == pid) ≡ true → new ≡ k
@@ -133,7 +133,7 @@ shares-group linkage heard then pid event key numbers count fresh m m' n n' memo
     (subst (λ l. ChangesIn (LivesAs (SharesAs (record { made = event; key = key }))) pid l n) em changes) e before len)
 
 -- the key that a member's memory has which this event made
-pub found-key : (kind : Kind) (count event : ℕ) (members : List (Option MemberSets)) → AreHeldOnce count members → (i key : ℕ) → held_key kind event (nth members i) ≡ Some key → IsKeyBy kind event key members × (key ≤ count)
+pub found-key : (kind : MemoryKind) (count event : ℕ) (members : List (Option MemberSets)) → AreHeldOnce count members → (i key : ℕ) → held_key kind event (nth members i) ≡ Some key → IsKeyBy kind event key members × (key ≤ count)
 found-key kind count event members once i key found = by_member (nth members i) refl found
   where
     by_member : (o : Option MemberSets) → nth members i ≡ o → held_key kind event o ≡ Some key → IsKeyBy kind event key members × (key ≤ count)
@@ -156,10 +156,10 @@ found-key kind count event members once i key found = by_member (nth members i) 
                     let least : s.key < count = at-some (λ (held : Held). held.key < count) (held_of kind m) s f (at-some (λ (m : MemberSets). IfSome (held_of kind m) (λ (held : Held). held.key < count)) (nth members i) m e (once.below kind i)) in
                     let key-is = is-key in omega arith
 
-                named : (other : Kind) (t : Option Held) → HasKeyBy kind s.made s.key other t → HasKeyBy kind event key other t
+                named : (other : MemoryKind) (t : Option Held) → HasKeyBy kind s.made s.key other t → HasKeyBy kind event key other t
                 named other t h = subst (λ n. HasKeyBy kind n key other t) (eqb-true s.made event same) (subst (λ n. HasKeyBy kind s.made n other t) is-key h)
 
-                at : (other : Kind) (o : Option MemberSets) → IfSome o (λ (k : MemberSets). IfSome (nth members i) (λ (n : MemberSets). HaveOneKey other kind (held_of other k) (held_of kind n)))
+                at : (other : MemoryKind) (o : Option MemberSets) → IfSome o (λ (k : MemberSets). IfSome (nth members i) (λ (n : MemberSets). HaveOneKey other kind (held_of other k) (held_of kind n)))
                     → IfSome o (λ (k : MemberSets). HasKeyBy kind event key other (held_of other k))
                 at other None h = tt
                 at other (Some k) h = named other (held_of other k) (subst (HaveOneKey other kind (held_of other k)) f (at-some (λ (n : MemberSets). HaveOneKey other kind (held_of other k) (held_of kind n)) (nth members i) m e h))
@@ -174,7 +174,7 @@ below-or (suc p) (suc n) = more (below-or p n)
     more (inr past) = inr (omega arith)
 
 -- one entry more has no such key
-pub none-more : (kind : Kind) (event : ℕ) (members : List (Option MemberSets)) (i : ℕ) (item : Option MemberSets) → ((p : ℕ) → p < i → held_key kind event (nth members p) ≡ None) → nth members i ≡ item → held_key kind event item ≡ None
+pub none-more : (kind : MemoryKind) (event : ℕ) (members : List (Option MemberSets)) (i : ℕ) (item : Option MemberSets) → ((p : ℕ) → p < i → held_key kind event (nth members p) ≡ None) → nth members i ≡ item → held_key kind event item ≡ None
     → (p : ℕ) → p < i + 1 → held_key kind event (nth members p) ≡ None
 none-more kind event members i item none is last p below = split (below-or p i)
   where
@@ -185,7 +185,7 @@ none-more kind event members i item none is last p below = split (below-or p i)
         ap (λ q. held_key kind event (nth members q)) same ∙ (ap (held_key kind event) is ∙ last)
 
 -- a free key is its own where no member's memory of this kind was made by this event
-pub free-key : (kind : Kind) (key event : ℕ) (members : List (Option MemberSets)) → IsFree key members → ((p : ℕ) → p < length members → held_key kind event (nth members p) ≡ None) → IsKeyBy kind event key members
+pub free-key : (kind : MemoryKind) (key event : ℕ) (members : List (Option MemberSets)) → IsFree key members → ((p : ℕ) → p < length members → held_key kind event (nth members p) ≡ None) → IsKeyBy kind event key members
 free-key kind key event members free none other p = by_member (nth members p) refl (within (below-or p (length members))) (free p other)
   where
     within : (p < length members) ⊎ (length members ≤ p) → held_key kind event (nth members p) ≡ None

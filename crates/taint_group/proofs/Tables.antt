@@ -18,8 +18,8 @@ use Rattle.taint_state.specs.RunsShow.{RunsIn, RunsKeep, RunsShow, kept_member}
 use Rattle.taint_state.specs.Sound.{IsSoundMember}
 use Rattle.taint_state.specs.Steps.{instr_inside}
 use Rattle.taint_group.specs.Tables.{AreKeyed, AreSoundTables, held_of, kept_in}
-use Rattle.taint_group.specs.declared.memories.Kind.{Kind}
-use Rattle.taint_group.specs.declared.memories.Kind.TheVariants.{Segment, Window}
+use Rattle.taint_group.specs.declared.memories.MemoryKind.{MemoryKind}
+use Rattle.taint_group.specs.declared.memories.MemoryKind.TheVariants.{Segment, Window}
 use Rattle.taint_group.proofs.Keyed.{HoldsSame, WritesOwn, at-some, keyed-from, keys-of, nth-map, same-but, stores-own, tables-seen, two-of}
 
 -- what the tables show goes on by an instruction, and they stay sound
@@ -68,7 +68,7 @@ module _ (linkage : Linkage) (heard : List KeptHeard) (pid : ℕ) (instr : Instr
     stand = stand;
     rest = refl;
   } where
-    of-changed : (kind : Kind) (held : Held) → held_of kind m ≡ Some held → held_of kind one.changed ≡ Some held
+    of-changed : (kind : MemoryKind) (held : Held) → held_of kind m ≡ Some held → held_of kind one.changed ≡ Some held
     of-changed Window held e = ap (λ (k : MemberSets). Some k.window) one.runs.others ∙ e
     of-changed Segment held e = ap (λ (k : MemberSets). k.segment) one.runs.others ∙ e
 

@@ -9,8 +9,8 @@ use Rattle.taint_state.specs.RunsShow.{kept_member}
 use Rattle.taint_state.specs.Kept.{KeptHeard}
 use Rattle.rv64_model.specs.declared.linkage.Linkage.{Linkage}
 use Rattle.taint_group.specs.Tables.{AreKeyed, AreSoundTables, held_of}
-use Rattle.taint_group.specs.declared.memories.Kind.{Kind}
-use Rattle.taint_group.specs.declared.memories.Kind.TheVariants.{Segment, Window}
+use Rattle.taint_group.specs.declared.memories.MemoryKind.{MemoryKind}
+use Rattle.taint_group.specs.declared.memories.MemoryKind.TheVariants.{Segment, Window}
 use Rattle.taint_group.proofs.TablesReceive.{TablesTake, TablesTook}
 use Rattle.taint_group.proofs.Changing.{nth-put}
 use Rattle.taint_group.proofs.HeldShown.{receives-kept}
@@ -43,6 +43,6 @@ tables-receive linkage heard after pid at numbers old new event x y sound hears 
   written : WritesOwn old x.memories y.memories
   written = writes-own at numbers old x.memories y.memories step.receives.memory
 
-  of-new : (kind : Kind) (held : Held) → held_of kind old ≡ Some held → held_of kind new ≡ Some held
+  of-new : (kind : MemoryKind) (held : Held) → held_of kind old ≡ Some held → held_of kind new ≡ Some held
   of-new Window held e = ap (λ (k : MemberSets). Some k.window) step.receives.others ∙ e
   of-new Segment held e = ap (λ (k : MemberSets). k.segment) step.receives.others ∙ e

@@ -10,8 +10,8 @@ use Rattle.taint_members.specs.declared.member.NewMember.{NewMember}
 use Rattle.taint_members.specs.declared.member.Held.{Held}
 use Rattle.taint_state.specs.Shown.{register_bytes}
 use Rattle.taint_group.specs.Tables.{HasKeyBy, HaveOneKey, held_of}
-use Rattle.taint_group.specs.declared.memories.Kind.{Kind}
-use Rattle.taint_group.specs.declared.memories.Kind.TheVariants.{Window}
+use Rattle.taint_group.specs.declared.memories.MemoryKind.{MemoryKind}
+use Rattle.taint_group.specs.declared.memories.MemoryKind.TheVariants.{Window}
 use Rattle.taint_spans.specs.Numbered.{Numbered}
 
 -- a member begins at a number
@@ -58,8 +58,8 @@ abbrev pub HasChild : Memories → Option MemberSets → Option NewMember → Ty
 HasChild memories before child = IfSome before (λ (old : MemberSets). IsSomeAnd child (IsChildOf memories old))
 
 -- of memories that members hold, all have this key exactly where they are of this kind, and this event made them
-abbrev pub IsKeyBy : Kind → ℕ → ℕ → List (Option MemberSets) → Type 0
-IsKeyBy kind made key members = (other : Kind) (p : ℕ) → IfSome (nth members p) (λ (m : MemberSets). HasKeyBy kind made key other (held_of other m))
+abbrev pub IsKeyBy : MemoryKind → ℕ → ℕ → List (Option MemberSets) → Type 0
+IsKeyBy kind made key members = (other : MemoryKind) (p : ℕ) → IfSome (nth members p) (λ (m : MemberSets). HasKeyBy kind made key other (held_of other m))
 
 -- the key of the memory that an event made, if it is held
 abbrev pub key_made : ℕ → Option Held → Option ℕ
@@ -67,27 +67,28 @@ key_made made None = None
 key_made made (Some held) = if held.made == made then Some held.key else None
 
 -- by a member that may be there
-abbrev pub held_key : Kind → ℕ → Option MemberSets → Option ℕ
+abbrev pub held_key : MemoryKind → ℕ → Option MemberSets → Option ℕ
 held_key kind made None = None
 held_key kind made (Some m) = key_made made (held_of kind m)
 
 -- memories that members hold have keys below so many, and are one exactly where they have one key
 pub record AreHeldOnce (count : ℕ) (members : List (Option MemberSets)) : Type 0 where
-  pub below : (kind : Kind) (p : ℕ) → IfSome (nth members p) (λ (m : MemberSets). IfSome (held_of kind m) (λ (held : Held). held.key < count))
-  pub once : (kind other : Kind) (p q : ℕ) → IfSome (nth members p) (λ (m : MemberSets). IfSome (nth members q) (λ (n : MemberSets). HaveOneKey kind other (held_of kind m) (held_of other n)))
+  pub below : (kind : MemoryKind) (p : ℕ) → IfSome (nth members p) (λ (m : MemberSets). IfSome (held_of kind m) (λ (held : Held). held.key < count))
+  pub once : (kind other : MemoryKind) (p q : ℕ) → IfSome (nth members p) (λ (m : MemberSets). IfSome (nth members q) (λ (n : MemberSets). HaveOneKey kind other (held_of kind m) (held_of other n)))
 
 -- a member that may be there doesn't hold the memory of this key
 abbrev pub HasNoKey : ℕ → Option MemberSets → Type 0
-HasNoKey key entry = (kind : Kind) → IfSome entry (λ (m : MemberSets). IfSome (held_of kind m) (λ (held : Held). held.key ≢ key))
+HasNoKey key entry = (kind : MemoryKind) → IfSome entry (λ (m : MemberSets). IfSome (held_of kind m) (λ (held : Held). held.key ≢ key))
 
 -- no member does
 abbrev pub IsFree : ℕ → List (Option MemberSets) → Type 0
 IsFree key members = (p : ℕ) → HasNoKey key (nth members p)
 
--- no memory is lost that a member holds
+-- no memory is lost that a member holds, and all others keep nothing
 pub record Releases (members : List (Option MemberSets)) (old new : Memories) : Type 0 where
   pub count : length new ≡ length old
   pub same : (key : ℕ) → (IsFree key members → ⊥) → slice_index_or new key [] ≡ slice_index_or old key []
+  pub gone : (key : ℕ) → IsFree key members → slice_index_or new key [] ≡ []
 
 -- a segment none of whose bytes has a set
 pub record IsFreshSegment (numbers : List ℕ) : Type 0 where

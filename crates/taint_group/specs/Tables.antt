@@ -9,8 +9,8 @@ use Rattle.rv64_model.specs.declared.linkage.Linkage.{Linkage}
 use Rattle.taint_state.specs.Kept.{Kept, KeptHeard}
 use Rattle.taint_state.specs.RunsShow.{kept_member}
 use Rattle.taint_state.specs.Sound.{IsSound}
-use Rattle.taint_group.specs.declared.memories.Kind.{Kind}
-use Rattle.taint_group.specs.declared.memories.Kind.TheVariants.{Segment, Window}
+use Rattle.taint_group.specs.declared.memories.MemoryKind.{MemoryKind}
+use Rattle.taint_group.specs.declared.memories.MemoryKind.TheVariants.{Segment, Window}
 
 -- what tables keep of a group, beside its events
 abbrev pub kept_in : Linkage → List KeptHeard → Tables → Kept
@@ -23,24 +23,24 @@ kept_in linkage heard tables =
     }
 
 -- the memory of a kind that a member holds
-abbrev pub held_of : Kind → MemberSets → Option Held
+abbrev pub held_of : MemoryKind → MemberSets → Option Held
 held_of Window m = Some m.window
 held_of Segment m = m.segment
 
 -- a memory that may be held has this key exactly where it is of this kind, and this event made it
-abbrev pub HasKeyBy : Kind → ℕ → ℕ → Kind → Option Held → Type 0
+abbrev pub HasKeyBy : MemoryKind → ℕ → ℕ → MemoryKind → Option Held → Type 0
 HasKeyBy kind made key other None = Unit {0}
 HasKeyBy kind made key other (Some held) = ((other ≡ kind) × (held.made ≡ made)) ↔ (held.key ≡ key)
 
 -- memories that may be held are one exactly where they have one key
-abbrev pub HaveOneKey : Kind → Kind → Option Held → Option Held → Type 0
+abbrev pub HaveOneKey : MemoryKind → MemoryKind → Option Held → Option Held → Type 0
 HaveOneKey kind other first None = Unit {0}
 HaveOneKey kind other first (Some held) = HasKeyBy other held.made held.key kind first
 
 -- each memory that a member holds is in the table, once
 pub record AreKeyed (tables : Tables) : Type 0 where
-  pub held : (kind : Kind) (p : ℕ) → IfSome (nth tables.members p) (λ (m : MemberSets). HoldsKey (held_of kind m) tables.memories)
-  pub once : (kind other : Kind) (p q : ℕ)
+  pub held : (kind : MemoryKind) (p : ℕ) → IfSome (nth tables.members p) (λ (m : MemberSets). HoldsKey (held_of kind m) tables.memories)
+  pub once : (kind other : MemoryKind) (p q : ℕ)
       → IfSome (nth tables.members p) (λ (m : MemberSets). IfSome (nth tables.members q) (λ (n : MemberSets). HaveOneKey kind other (held_of kind m) (held_of other n)))
 
 -- tables that keep what is sound

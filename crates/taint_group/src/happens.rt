@@ -3,7 +3,7 @@ ghost use Rattle.std.specs.Prelude.{◌≡◌, IfOk, OnOk, is_some};
 ghost use Rattle.parts_model.specs.Numbered.{nth};
 ghost use Rattle.acts_model.specs.Acts.{Forks};
 ghost use Rattle.acts_model.specs.Deeds.{deed_as};
-ghost use Rattle.taint_group.specs.Does.{DoesStep};
+ghost use Rattle.taint_group.specs.Does.{DoesStep, may_free_memory};
 ghost use Rattle.taint_state.specs.Goes.{TakesEvent};
 ghost use Rattle.taint_group.specs.Groups.{IsSoundGroup, kept_of};
 ghost use Rattle.taint_state.specs.Kept.{shown};
@@ -13,7 +13,6 @@ use crate::group::Group;
 use crate::memories::release;
 use acts_model::{Deed, deed_of, event_len, process_of};
 use arn_base::{Cpu, NoMemory, Record};
-use parts_model::calls::{EXEC, EXIT, SHM};
 use taint_state::{Layout, acts_have_len};
 
 /// The number of a process. 2^32 or more count as want of memory.
@@ -27,12 +26,13 @@ fn narrow_pid(number: u64) -> Result<u32, NoMemory>
     }
 }
 
-/// Whether a process may let go of a memory at an event: where it ends, starts anew or gets a segment.
-fn may_let_go(entry: &Record) -> bool {
-    match entry {
-        Record::Call { number, .. } => matches!(*number, EXIT | EXEC | SHM),
-        Record::Signal { handler, .. } => *handler == 0,
-        Record::End { .. } => true,
+/// Whether a process may let go of a memory: where it starts anew, gets a segment or ends.
+fn lets_go(deed: &Deed<'_>) -> bool
+    ensures { result ≡ may_free_memory (deed_as deed.now) }
+{
+    match *deed {
+        Deed::Starts { .. } | Deed::Shares => true,
+        Deed::Exits | Deed::Faults { .. } | Deed::Dies { .. } => true,
         _ => false,
     }
 }
@@ -83,8 +83,8 @@ impl Group {
     }
 
     /// An event happens, with the registers before it. One of no live member changes nothing. Where
-    /// there are many sets, those that nobody names go first. After an error nothing is known of
-    /// what is kept.
+    /// there are many sets, those that nobody names go first. Memories that no member holds any
+    /// more are let go of. After an error nothing is known of what is kept.
     pub fn happened(&mut self, event: u64, entry: &Record, before: &Cpu) -> Result<(), NoMemory>
         requires sound { IsSoundGroup self.old }
         ensures takes { OnOk result (TakesEvent (shown (kept_of self.old))
@@ -92,25 +92,25 @@ impl Group {
         ensures sound { OnOk result (IsSoundGroup self.new) }
     {
         self.tidy()?;
-        self.hears(event, entry, before)?;
-        self.release(entry)
+        self.hears(event, entry, before)
     }
 
-    /// Lets go of the memories that no member holds, if the event may have left one so. After an
-    /// error nothing is known of what is kept.
-    fn release(&mut self, entry: &Record) -> Result<(), NoMemory>
+    /// Lets go of the memories that no member holds, if what a member did may have left one so.
+    /// After an error nothing is known of what is kept.
+    fn release(&mut self, deed: &Deed<'_>) -> Result<(), NoMemory>
         requires sound { IsSoundGroup self.old }
         ensures same { OnOk result (shown (kept_of self.new) ≡ shown (kept_of self.old)) }
         ensures sound { OnOk result (IsSoundGroup self.new) }
     {
-        if !may_let_go(entry) {
+        if !lets_go(deed) {
             return Ok(());
         }
         let alloc = *self.members.allocator();
         release(alloc, self.members.as_slice(), &mut self.memories)
     }
 
-    /// The same, with the sets that there are.
+    /// The same, where all sets are kept: the member does what the record tells, and then memories
+    /// that no member holds any more are let go of.
     fn hears(&mut self, event: u64, entry: &Record, before: &Cpu) -> Result<(), NoMemory>
         requires sound { IsSoundGroup self.old }
         ensures takes { OnOk result (TakesEvent (shown (kept_of self.old))
@@ -127,6 +127,7 @@ impl Group {
         if !self.is_live(pid) {
             return Ok(());
         }
-        self.step(pid, event, &deed, event_len(entry) as usize)
+        self.step(pid, event, &deed, event_len(entry) as usize)?;
+        self.release(&deed)
     }
 }

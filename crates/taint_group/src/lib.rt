@@ -18,4 +18,4 @@ mod starts;
 mod turns;
 
 pub use group::Group;
-pub use memories::Kind;
+pub use memories::MemoryKind;

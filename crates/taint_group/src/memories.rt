@@ -12,27 +12,27 @@ use taint_pages::{SetNumbers, Unset};
 
 /// Which memory of a member: its window, or its segment.
 #[derive(Clone, Copy)]
-pub enum Kind {
+pub enum MemoryKind {
     Window,
     Segment,
 }
 
 /// The memory of a kind that a member holds.
-fn held(member: &MemberSets, kind: Kind) -> Option<Held>
+fn held_memory(member: &MemberSets, kind: MemoryKind) -> Option<Held>
     ensures { result ≡ held_of kind member.now }
 {
     match kind {
-        Kind::Window => Some(member.window),
-        Kind::Segment => member.segment,
+        MemoryKind::Window => Some(member.window),
+        MemoryKind::Segment => member.segment,
     }
 }
 
 /// The key of the memory of a kind that an event made, if a member that may be there holds it.
-fn key_in(entry: &Option<MemberSets>, kind: Kind, event: u64) -> Option<usize>
+fn key_in(entry: &Option<MemberSets>, kind: MemoryKind, event: u64) -> Option<usize>
     ensures { result ≡ held_key kind event entry.now }
 {
     match entry {
-        Some(member) => match held(member, kind) {
+        Some(member) => match held_memory(member, kind) {
             Some(held) if held.made == event => Some(held.key),
             _ => None,
         },
@@ -42,7 +42,8 @@ fn key_in(entry: &Option<MemberSets>, kind: Kind, event: u64) -> Option<usize>
 
 /// Whether a member that may be there holds the memory of a key.
 fn holds_key(entry: &Option<MemberSets>, key: usize) -> bool
-    ensures { result ≡ false → HasNoKey key entry.now }
+    ensures free { result ≡ false → HasNoKey key entry.now }
+    ensures holds { HasNoKey key entry.now → result ≡ false }
 {
     match entry {
         Some(member) => match member.segment {
@@ -53,12 +54,14 @@ fn holds_key(entry: &Option<MemberSets>, key: usize) -> bool
     }
 }
 
-/// Whether a member does.
+/// Whether a member does. Those with the latest numbers come first: where a group has had many
+/// processes, few of the early ones live.
 fn is_held(members: &[Option<MemberSets>], key: usize) -> bool
-    ensures { result ≡ false → IsFree key members.now }
+    ensures free { result ≡ false → IsFree key members.now }
+    ensures held { IsFree key members.now → result ≡ false }
 {
-    for member in members {
-        if holds_key(member, key) {
+    for place in (0..members.len()).rev() {
+        if holds_key(&members[place], key) {
             return true;
         }
     }
@@ -81,7 +84,7 @@ fn free_key(members: &[Option<MemberSets>], count: usize) -> usize
 
 /// The key for a memory of a kind that an event makes: that of one that it made already, or a
 /// free one.
-pub fn key_for(members: &[Option<MemberSets>], kind: Kind, count: usize, event: u64) -> usize
+pub fn key_for(members: &[Option<MemberSets>], kind: MemoryKind, count: usize, event: u64) -> usize
     requires once { AreHeldOnce count members.now }
     ensures own { IsKeyBy kind event result members.now }
     ensures most { result ≤ count }
@@ -124,7 +127,12 @@ pub fn seat(
     ensures { OnOk result (Seats pid event member members.old.items members.new.items
         memories.old.items memories.new.items) }
 {
-    let key = key_for(members.as_slice(), Kind::Window, memories.len(), event);
+    let key = key_for(
+        members.as_slice(),
+        MemoryKind::Window,
+        memories.len(),
+        event,
+    );
     put_memory(memories, key, member.window)?;
     let seated = MemberSets {
         registers: member.registers,

@@ -6,7 +6,7 @@ ghost use Rattle.taint_group.specs.Moves.{IsFreshSegment, SharesAs};
 ghost use Rattle.taint_group.specs.Turns.{ChangesEntry, ChangesIn, LivesAs, StepsFrom};
 
 use crate::group::{Group, hear_empty};
-use crate::memories::{Kind, key_for, put_memory};
+use crate::memories::{MemoryKind, key_for, put_memory};
 use arn_base::NoMemory;
 use std::alloc::Global;
 use taint_members::{Held, MemberSets};
@@ -54,7 +54,7 @@ impl Group {
         let alloc = *self.members.allocator();
         let key = key_for(
             self.members.as_slice(),
-            Kind::Segment,
+            MemoryKind::Segment,
             self.memories.len(),
             event,
         );

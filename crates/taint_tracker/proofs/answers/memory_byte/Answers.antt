@@ -5,7 +5,7 @@ use Rattle.taint_members.specs.declared.member.MemberSets.{MemberSets}
 use Rattle.taint_group.specs.declared.group.Group.{Group}
 use Rattle.taint_group.specs.Groups.{tables_of}
 use Rattle.taint_group.specs.Tables.{AreKeyed, held_of}
-use Rattle.taint_group.specs.declared.memories.Kind.TheVariants.{Segment, Window}
+use Rattle.taint_group.specs.declared.memories.MemoryKind.TheVariants.{Segment, Window}
 use Rattle.taint_tracker.proofs.answers.memory_byte.Goals as goal
 
 -- the memories of a member are in the table

@@ -1,20 +1,26 @@
-use Rattle.std.proofs.Common.{◌∙◌, ap, option_map, sym}
+use Rattle.std.proofs.Common.{◌∙◌, ap, option_map, subst, sym}
 use Rattle.acts_model.specs.Deeds.{deed_as}
+use Rattle.taint_group.specs.Groups.{kept_of}
+use Rattle.taint_state.specs.Goes.{TakesEvent}
+use Rattle.taint_state.specs.Kept.{shown}
 use Rattle.taint_group.proofs.Groups.{ok-map}
 use Rattle.taint_group.proofs.Happening.{has-len, takes-act, takes-dead, takes-nobody, takes-untold}
 use Rattle.taint_group.proofs.group.Group.hears.Goals as goal
 
 pub returns-clause-takes : goal.returns-clause-takes
 returns-clause-takes c =
-    ok-map c.step.result (λ step.
+    ok-map c.release.result
+    (λ same. subst (λ y. TakesEvent (shown (kept_of c.args.self.now)) c.args.event c.args.entry.now c.args.before.now y) (sym same)
     (takes-act (deed_as c.in-Some-deed_of.deed) c.in-Some.pid c.args.event c.event_len.result c.args.entry.now c.args.before.now c.args.self.now c.step.new.self
-    (sym c.process_of.ensures ∙ c.in-Some.is) (sym c.deed_of.ensures ∙ ap (option_map deed_as) c.in-Some-deed_of.is) (sym c.is_live.ensures ∙ c.if-not-is_live.false) c.event_len.ensures step).0) c.step.ensures
+    (sym c.process_of.ensures ∙ c.in-Some.is) (sym c.deed_of.ensures ∙ ap (option_map deed_as) c.in-Some-deed_of.is) (sym c.is_live.ensures ∙ c.if-not-is_live.false) c.event_len.ensures c.in_ok-step.ensures).0) c.release.ensures.same
 
-pub returns-clause-sound : goal.returns-clause-sound
-returns-clause-sound c =
-    ok-map c.step.result (λ step.
-    (takes-act (deed_as c.in-Some-deed_of.deed) c.in-Some.pid c.args.event c.event_len.result c.args.entry.now c.args.before.now c.args.self.now c.step.new.self
-    (sym c.process_of.ensures ∙ c.in-Some.is) (sym c.deed_of.ensures ∙ ap (option_map deed_as) c.in-Some-deed_of.is) (sym c.is_live.ensures ∙ c.if-not-is_live.false) c.event_len.ensures step).1) c.step.ensures
+pub release-requires : goal.release-requires
+release-requires c =
+    record {
+      sound =
+          (takes-act (deed_as c.in-Some-deed_of.deed) c.in-Some.pid c.args.event c.event_len.result c.args.entry.now c.args.before.now c.args.self.now c.step.new.self
+          (sym c.process_of.ensures ∙ c.in-Some.is) (sym c.deed_of.ensures ∙ ap (option_map deed_as) c.in-Some-deed_of.is) (sym c.is_live.ensures ∙ c.if-not-is_live.false) c.event_len.ensures c.in_ok-step.ensures).1;
+    }
 
 pub returns-in_default-clause-takes : goal.returns-in_default-clause-takes
 returns-in_default-clause-takes c = takes-nobody c.args.event c.args.entry.now c.args.before.now c.args.self.now (sym c.process_of.ensures ∙ c.in_default.is)

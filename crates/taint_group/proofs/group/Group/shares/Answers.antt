@@ -3,7 +3,7 @@ use Rattle.parts_model.specs.Numbered.{nth}
 use Rattle.taint_group.specs.Groups.{heard_of, tables_of}
 use Rattle.taint_state.specs.Heard.{heard_in}
 use Rattle.taint_group.specs.Moves.{AreHeldOnce, IsKeyBy}
-use Rattle.taint_group.specs.declared.memories.Kind.TheVariants.{Segment}
+use Rattle.taint_group.specs.declared.memories.MemoryKind.TheVariants.{Segment}
 use Rattle.taint_group.proofs.Groups.{if-map, ok-map, slice-back}
 use Rattle.taint_group.proofs.Seating.{held-once}
 use Rattle.taint_group.proofs.Sharing.{shares-group}
