@@ -1,0 +1,118 @@
+"""The words of `arn`, and which file has which subcommand."""
+import argparse
+import importlib
+import os
+import sys
+
+from arnlib.faults import Fault, UNASKED
+
+VERSION = "arn 1"
+
+# Of each subcommand the file that has it, and what it does. A file of that name has DESCRIPTION, EXAMPLE, `add_words(parser)` and
+# `run(options)`, which gives the status; and FAULT, the status of faults, where that isn't 2.
+COMMANDS = {
+    "record": "runs a program and keeps all of it in a log",
+    "resume": "goes on with a recording that was ended",
+    "why": "says which input bytes some bytes came from",
+    "reach": "says which outputs some input bytes reached",
+    "leaks": "says whether an input reached an output, by its status",
+    "find": "finds a text in what came in and what went out",
+    "last": "finds what last changed a byte of a process's memory",
+    "events": "lists what happened, as strace does",
+    "show": "shows a process at a moment: registers, calls, variables, memory",
+    "files": "lists the files at a moment",
+    "cat": "prints a file as it was at a moment",
+    "diff": "finds where two recordings differ",
+    "page": "makes one page of a log for a browser",
+    "verify": "says whether a log is the record of a run",
+    "ask": "asks the program by its own lines",
+    "lint": "says what is wrong with the lines of a session",
+    "hex": "makes hex of texts, and texts of hex",
+}
+
+DESCRIPTION = "Records programs, and says of any byte which input bytes it came from."
+EXAMPLE = """examples:
+  arn record examples/leak/leak.img < names.txt    runs a program, and keeps all of it in leak.log
+  arn why leak.log 'battery9'                      says where this text in the output came from
+  arn why --help                                   says more about one subcommand"""
+
+
+class Parser(argparse.ArgumentParser):
+    """Says what is wrong with the words in one line."""
+
+    fault = UNASKED
+
+    def error(self, message):
+        raise Fault(f"{message} (see {self.prog} --help)", self.fault)
+
+
+def here(names):
+    """Those of the subcommands whose file is there."""
+    folder = os.path.dirname(os.path.abspath(__file__))
+    return [name for name in names if os.path.isfile(os.path.join(folder, f"{name}.py"))]
+
+
+def whole_parser():
+    """The parser of `arn` alone, which lists the subcommands."""
+    listed = "\n".join(f"  {name:8} {COMMANDS[name]}" for name in here(COMMANDS))
+    parser = Parser(prog="arn", usage="arn COMMAND [WORD..]", description=DESCRIPTION, epilog=f"commands:\n{listed}\n\n{EXAMPLE}",
+                    formatter_class=argparse.RawDescriptionHelpFormatter)
+    parser.add_argument("--version", action="version", version=VERSION)
+    return parser
+
+
+def run_command(name, words):
+    """Runs a subcommand, and gives its status."""
+    command = importlib.import_module(f"arnlib.{name}")
+    parser = Parser(prog=f"arn {name}", description=command.DESCRIPTION, epilog=command.EXAMPLE,
+                    formatter_class=argparse.RawDescriptionHelpFormatter)
+    parser.fault = getattr(command, "FAULT", UNASKED)
+    try:
+        command.add_words(parser)
+        return command.run(parser.parse_args(words))
+    except Fault as fault:
+        if fault.status is None:
+            fault.status = parser.fault
+        raise
+
+
+def lose_output():
+    """Lets nothing more be written to a standard output that is closed or full."""
+    try:
+        os.dup2(os.open(os.devnull, os.O_WRONLY), sys.stdout.fileno())
+    except (OSError, ValueError, AttributeError):
+        pass
+
+
+def chosen(words):
+    """Runs what the words ask for."""
+    if words and words[0] in here(COMMANDS):
+        return run_command(words[0], words[1:])
+    parser = whole_parser()
+    if not words:
+        parser.print_help(sys.stderr)
+        return UNASKED
+    if words[0].startswith("-"):
+        parser.parse_args(words)
+    raise Fault(f"there is no command {words[0]!r} (see arn --help)")
+
+
+def main(words):
+    """Runs `arn` with some words, and gives its status."""
+    try:
+        status = chosen(words)
+        sys.stdout.flush()
+        return status
+    except Fault as fault:
+        print(f"arn: {fault}", file=sys.stderr)
+        return UNASKED if fault.status is None else fault.status
+    except BrokenPipeError:
+        lose_output()
+        return 141
+    except KeyboardInterrupt:
+        return 130
+    except OSError as error:
+        lose_output()
+        where = "standard output" if error.filename is None else error.filename
+        print(f"arn: {where}: {error.strerror}", file=sys.stderr)
+        return UNASKED

@@ -1,0 +1,146 @@
+"""Where bytes are in a history: what came in, and what each sink holds.
+
+A *place* is an event and a byte of it. A sink is the console, a file or a device. What it holds is the bytes of all writes to it put
+together, each with its place.
+"""
+import bisect
+from typing import NamedTuple
+
+from arnlib import texts
+
+# Names of files that `arn record` makes for itself, and that of the program's input.
+OWN = b".arn/"
+INPUT = b".arn/input"
+
+
+class Piece(NamedTuple):
+    """Bytes that lie together in a sink or in the input: the event, the first byte of it, and how many."""
+    event: int
+    first: int
+    length: int
+
+
+class Stretch:
+    """Bytes with their places, in order."""
+
+    def __init__(self, name):
+        self.name, self.data, self.pieces, self.begins = name, bytearray(), [], []
+
+    def add(self, event, data, first=0):
+        """Adds bytes of an event behind the others."""
+        if data:
+            self.begins.append(len(self.data))
+            self.pieces.append(Piece(event, first, len(data)))
+            self.data += data
+
+    def place(self, at):
+        """The event and the byte of it at a place of the stretch."""
+        index = bisect.bisect_right(self.begins, at) - 1
+        piece = self.pieces[index]
+        return piece.event, piece.first + at - self.begins[index]
+
+    def ranges(self, at, length):
+        """The pieces of which a range is made."""
+        found = []
+        while length:
+            index = bisect.bisect_right(self.begins, at) - 1
+            piece, offset = self.pieces[index], at - self.begins[index]
+            taken = min(length, piece.length - offset)
+            found.append(Piece(piece.event, piece.first + offset, taken))
+            at, length = at + taken, length - taken
+        return found
+
+    def find_all(self, wanted):
+        """Where some bytes begin, from the first place on."""
+        at = self.data.find(wanted)
+        while at >= 0:
+            yield at
+            at = self.data.find(wanted, at + 1)
+
+    def order(self, at, length):
+        """The number of the last event that a range is of."""
+        return max(piece.event for piece in self.ranges(at, length))
+
+
+class Content:
+    """A file's bytes as its writes left them, each with its place; None where a byte wasn't written but given."""
+
+    def __init__(self, given=b""):
+        self.data, self.places = bytearray(given), [None] * len(given)
+
+    def put(self, event, at, data):
+        end = at + len(data)
+        if end > len(self.data):
+            missing = end - len(self.data)
+            self.data += bytes(missing)
+            self.places += [None] * missing
+        self.data[at:end] = data
+        self.places[at:end] = [(event, place) for place in range(len(data))]
+
+    def stretch(self, name):
+        """Those bytes that were written."""
+        made, begin = Stretch(name), 0
+        while begin < len(self.data):
+            end, place = begin + 1, self.places[begin]
+            while place and end < len(self.data) and self.places[end] == (place[0], place[1] + end - begin):
+                end += 1
+            if place:
+                made.add(place[0], self.data[begin:end], place[1])
+            begin = end
+        return made
+
+
+def file_names(history):
+    """The names of files by their numbers: those that were given come first, in order."""
+    given = [event.name for event in history.events if event.kind == "file"]
+    names = dict(enumerate(given))
+    names.update({event.file: event.name for event in history.events if event.did == "name" and event.name is not None})
+    return names
+
+
+def sinks(history):
+    """What each sink holds, by its word: `console`, `file:NAME`, `device:N`."""
+    names, found, contents = file_names(history), {}, {}
+    given = [event for event in history.events if event.kind == "file"]
+    for event in history.events:
+        if event.did == "console":
+            found.setdefault("console", Stretch("console")).add(event.number, event.data)
+        elif event.did == "sent":
+            word = f"device:{event.device}"
+            found.setdefault(word, Stretch(word)).add(event.number, event.data)
+        elif event.did == "put":
+            if event.file not in contents:
+                contents[event.file] = Content(given[event.file].data if event.file < len(given) else b"")
+            contents[event.file].put(event.number, event.place, event.data)
+    for number, content in contents.items():
+        word = "file:" + texts.shown(names.get(number, str(number).encode()))
+        found[word] = content.stretch(word)
+    return found
+
+
+def is_own(name):
+    """Whether a file is one that `arn record` made for itself."""
+    return name is not None and name.startswith(OWN)
+
+
+def inputs(history):
+    """What came in, by its word: `input`, `file:NAME`, `device:N`. Typed bytes and the pieces of a recorded input are one input."""
+    found = {}
+    for event in history.events:
+        if event.kind == "type" or event.kind == "file" and event.name.startswith(INPUT):
+            word = "input"
+        elif event.kind == "file" and not is_own(event.name):
+            word = "file:" + texts.shown(event.name)
+        elif event.did == "reply":
+            word = f"device:{event.device}"
+        else:
+            continue
+        found.setdefault(word, Stretch(word)).add(event.number, event.data)
+    return found
+
+
+def line_of(data, at):
+    """The number of the line in which a byte is, from 1, and where the line begins and ends, without its line feed."""
+    begin = data.rfind(b"\n", 0, at) + 1
+    end = data.find(b"\n", at)
+    return data.count(b"\n", 0, at) + 1, begin, len(data) if end < 0 else end
