@@ -9,7 +9,8 @@ from arnlib.faults import Fault, UNASKED
 VERSION = "arn 1"
 
 # Of each subcommand the file that has it, and what it does. A file of that name has DESCRIPTION, EXAMPLE, `add_words(parser)` and
-# `run(options)`, which gives the status; and FAULT, the status of faults, where that isn't 2.
+# `run(options)`, which gives the status; FAULT, the status of faults, where that isn't 2; and PROGRAM_WORDS where what stands behind
+# `--` are words of a program, which it gets as `options.words`.
 COMMANDS = {
     "record": "runs a program and keeps all of it in a log",
     "resume": "goes on with a recording that was ended",
@@ -61,6 +62,12 @@ def whole_parser():
     return parser
 
 
+def split(words):
+    """The words before and behind the first `--`."""
+    place = words.index("--") if "--" in words else len(words)
+    return words[:place], words[place + 1:]
+
+
 def run_command(name, words):
     """Runs a subcommand, and gives its status."""
     command = importlib.import_module(f"arnlib.{name}")
@@ -69,7 +76,8 @@ def run_command(name, words):
     parser.fault = getattr(command, "FAULT", UNASKED)
     try:
         command.add_words(parser)
-        return command.run(parser.parse_args(words))
+        words, program_words = split(words) if hasattr(command, "PROGRAM_WORDS") else (words, [])
+        return command.run(parser.parse_args(words, argparse.Namespace(words=program_words)))
     except Fault as fault:
         if fault.status is None:
             fault.status = parser.fault

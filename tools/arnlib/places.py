@@ -10,7 +10,7 @@ from arnlib import texts
 
 # Names of files that `arn record` makes for itself, and that of the program's input.
 OWN = b".arn/"
-INPUT = b".arn/input"
+INPUT, START = b".arn/input", b".arn/start"
 
 
 class Piece(NamedTuple):
@@ -68,7 +68,13 @@ class Content:
     def __init__(self, given=b""):
         self.data, self.places = bytearray(given), [None] * len(given)
 
+    def give(self, at, data):
+        """Puts bytes that weren't written by a program."""
+        self.put(None, at, data)
+        self.places[at:at + len(data)] = [None] * len(data)
+
     def put(self, event, at, data):
+        """Puts the bytes of a write."""
         end = at + len(data)
         if end > len(self.data):
             missing = end - len(self.data)
@@ -100,10 +106,12 @@ def file_names(history):
 
 def sinks(history):
     """What each sink holds, by its word: `console`, `file:NAME`, `device:N`."""
-    names, found, contents = file_names(history), {}, {}
+    names, found, contents, launched = file_names(history), {}, {}, launch(history)
     given = [event for event in history.events if event.kind == "file"]
     for event in history.events:
-        if event.did == "console":
+        if event.did == "put" and event.number <= launched:
+            contents.setdefault(event.file, Content()).give(event.place, event.data)
+        elif event.did == "console":
             found.setdefault("console", Stretch("console")).add(event.number, event.data)
         elif event.did == "sent":
             word = f"device:{event.device}"
@@ -123,14 +131,34 @@ def is_own(name):
     return name is not None and name.startswith(OWN)
 
 
+def launch(history):
+    """The number of the event with which the launcher of `arn record` started the program; -1 in a log without a launcher."""
+    if not any(event.kind == "boot" and event.name == START for event in history.events):
+        return -1
+    return next((event.number for event in history.events if event.what == "exec" and event.result == 0), len(history.events))
+
+
+def wholes(history):
+    """Of each piece of a file that the launcher put together, the name of that file."""
+    found, whole = {}, None
+    for event in history.events[:launch(history) + 1]:
+        if event.what == "open" and event.did == "name":
+            if is_own(event.name) and event.name != INPUT:
+                found[event.name] = whole
+            else:
+                whole = event.name
+    return found
+
+
 def inputs(history):
     """What came in, by its word: `input`, `file:NAME`, `device:N`. Typed bytes and the pieces of a recorded input are one input."""
-    found = {}
+    found, whole = {}, wholes(history)
     for event in history.events:
-        if event.kind == "type" or event.kind == "file" and event.name.startswith(INPUT):
+        name = whole.get(event.name, event.name) if event.kind == "file" else None
+        if event.kind == "type" or name is not None and name == INPUT:
             word = "input"
-        elif event.kind == "file" and not is_own(event.name):
-            word = "file:" + texts.shown(event.name)
+        elif name is not None and not is_own(name):
+            word = "file:" + texts.shown(name)
         elif event.did == "reply":
             word = f"device:{event.device}"
         else:
