@@ -5,7 +5,7 @@ import os
 import sys
 
 import arnold_log
-from arnlib import launcher, logs, programs, texts
+from arnlib import launcher, logs, programs, symbols, texts
 from arnlib.faults import Fault
 from arnlib.program import Ended, find_program
 from arnlib.recording import FAILED, Recording, ended_early, summary
@@ -121,9 +121,10 @@ def session_lines(options, words, program, given):
     return launcher.lines(program.name, files, block, given is not None)
 
 
-def where(place):
-    """An address of an instruction in words."""
-    return f"at {place:#x}"
+def keep_elf(log, program):
+    """Keeps the ELF file of the program, so that addresses have names."""
+    if program.elf is not None:
+        symbols.keep(log, [(program.name, program.image, program.elf)])
 
 
 def run(options):
@@ -132,13 +133,15 @@ def run(options):
     lines = session_lines(options, options.words, program, given)
     arnold = find_program(options.arnold)
     log = new_log(options.log, program.name)
+    keep_elf(log, program)
     try:
         with locked(log):
             recording = Recording(arnold, log, chooser(options), options.most)
             try:
                 recording.give(lines)
                 early = recording.run(sys.stdin.buffer if given is None else None)
-                status, said = summary(recording, arnold_log.read_history(log), program.name, early, where)
+                history = arnold_log.read_history(log)
+                status, said = summary(recording, history, program.name, early, symbols.Programs(log, history))
             finally:
                 recording.close()
     except Ended as ended:

@@ -200,7 +200,7 @@ def fault_reason(dialogue, event):
     return {LOADS: "load outside its memory", STORES: "store outside its memory"}.get(opcode, "outside its memory"), place
 
 
-def summary(recording, history, name, early, where):
+def summary(recording, history, name, early, named):
     """How the recording ended: the status of `arn`, and its last line."""
     counts = f"{texts.plural(history.total, 'instruction')}, {texts.plural(len(history.events), 'event')}, log {texts.safe(recording.log)}"
     ending = ending_of(history)
@@ -213,7 +213,8 @@ def summary(recording, history, name, early, where):
     elif ending.what == "end":
         status = ending.status
         reason, place = fault_reason(recording.dialogue, ending)
-        said = f"{name}: fault {status} at moment {ending.moment - 1}: {reason}, {where(place)}, {counts}"
+        where = named.where(ending.process, ending.number, place)
+        said = f"{name}: fault {status} at moment {ending.moment - 1}: {reason}, {where}, {counts}"
     else:
         status = ending.status
         said = f"{name}: ended by signal {ending.signal}, status {status}, {counts}"
