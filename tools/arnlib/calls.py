@@ -30,9 +30,9 @@ def arguments(event, registers):
     """The arguments of a call in words; `?` for what isn't known."""
     what = event.what
     if what in ("read", "write"):
-        data = bytes_text(event.data) if event.data is not None else "?"
+        data = bytes_text(event.data or b"") if event.data is not None or event.length == 0 else "?"
         descriptor, count = (signed(registers[10]), registers[12]) if registers else ("?", "?")
-        return f"{descriptor}, {data if event.length or event.result == 0 else '?'}, {count}"
+        return f"{descriptor}, {data}, {count}"
     if what == "open":
         return f"{path_of(event)}, {registers[12] if registers else '?'}"
     if what in ("exec", "unlink"):
