@@ -1,7 +1,12 @@
-"""Words that all questions have, and lists that are printed as text or as objects."""
+"""What all questions have: their words, lists that are printed as text or as objects, and what is said of long ones."""
 import json
+import sys
 
-from arnlib import logs
+from arnlib import logs, places, sources, texts
+from arnlib.faults import Fault
+
+# From how many instructions on that run again a question may take above ten seconds.
+LONG = 200_000_000
 
 
 def add_log(parser, has_json=True):
@@ -20,4 +25,37 @@ def opened(options):
 
 
 def print_object(**parts):
-    print(json.dumps(parts, ensure_ascii=False))
+    print(json.dumps(parts))
+
+
+def as_bytes(pieces):
+    """Bytes of events for a JSON object."""
+    return [{"event": piece.event, "from": piece.first, "to": piece.first + piece.length - 1} for piece in pieces]
+
+
+def as_place(stretch, first, last):
+    """Bytes of an input or of a sink for a JSON object: its word, the first and the last, the line, and which bytes of events they are."""
+    made = {"name": stretch.name, "from": first, "to": last, "bytes": as_bytes(stretch.ranges(first, last - first + 1))}
+    if sources.has_lines(stretch):
+        made["line"] = places.line_of(stretch.data, first)[0]
+    return {**made, **texts.as_json(bytes(stretch.data[first:last + 1]))}
+
+
+def say_how_long(instructions):
+    """Says of a question that it may take long, where it may."""
+    if instructions > LONG:
+        print(f"arn: up to {instructions:,} instructions run again, which may take above ten seconds", file=sys.stderr, flush=True)
+
+
+def event_after(history, moment):
+    """The number of the first event that hasn't happened at a moment."""
+    return next((event.number for event in history.events if event.moment > moment), len(history.events))
+
+
+def variable(programs, history, pid, moment, name):
+    """The address of a process's global variable, and its length."""
+    elf = programs.elf(pid, event_after(history, moment))
+    known = elf.variables() if elf else {}
+    if name not in known:
+        raise Fault(f"there is no variable {texts.safe(name)}" + ("" if elf else ": the program's ELF file isn't kept"))
+    return known[name]

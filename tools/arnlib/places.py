@@ -4,6 +4,8 @@ A *place* is an event and a byte of it. A sink is the console, a file or a devic
 together, each with its place.
 """
 import bisect
+import functools
+import struct
 from typing import NamedTuple
 
 from arnlib import texts
@@ -11,6 +13,10 @@ from arnlib import texts
 # Names of files that `arn record` makes for itself, and that of the program's input.
 OWN = b".arn/"
 INPUT, START = b".arn/input", b".arn/start"
+# The argument block that the launcher hands over (sdk/unix/layer.h): how it begins, and where its texts are.
+BLOCK_NAME, BLOCK_TEXTS = b"ARNBLK01", 304
+# How a program of the machine begins.
+PROGRAMS = (b"ARNIMG01", b"\x7fELF")
 
 
 class Piece(NamedTuple):
@@ -104,26 +110,48 @@ def file_names(history):
     return names
 
 
+def file_word(names, number):
+    """The word of a file of this number."""
+    return "file:" + texts.shown(names.get(number, str(number).encode()))
+
+
 def sinks(history):
-    """What each sink holds, by its word: `console`, `file:NAME`, `device:N`."""
+    """What each sink holds. Its name is a word: `console`, `file:NAME`, `device:N`. Files of one name are sinks of their own."""
     names, found, contents, launched = file_names(history), {}, {}, launch(history)
     given = [event for event in history.events if event.kind == "file"]
     for event in history.events:
-        if event.did == "put" and event.number <= launched:
-            contents.setdefault(event.file, Content()).give(event.place, event.data)
-        elif event.did == "console":
-            found.setdefault("console", Stretch("console")).add(event.number, event.data)
-        elif event.did == "sent":
-            word = f"device:{event.device}"
-            found.setdefault(word, Stretch(word)).add(event.number, event.data)
-        elif event.did == "put":
+        if event.did == "put":
             if event.file not in contents:
                 contents[event.file] = Content(given[event.file].data if event.file < len(given) else b"")
-            contents[event.file].put(event.number, event.place, event.data)
-    for number, content in contents.items():
-        word = "file:" + texts.shown(names.get(number, str(number).encode()))
-        found[word] = content.stretch(word)
+            put = contents[event.file].give if event.number <= launched else functools.partial(contents[event.file].put, event.number)
+            put(event.place, event.data)
+        elif event.did in ("console", "sent"):
+            word = "console" if event.did == "console" else f"device:{event.device}"
+            found.setdefault(word, Stretch(word)).add(event.number, event.data)
+    return [*found.values(), *(content.stretch(file_word(names, number)) for number, content in contents.items())]
+
+
+def writes(history):
+    """All that was written to each sink, by its word: the bytes of its writes one behind the other."""
+    names, found = file_names(history), {}
+    for event in history.events[launch(history) + 1:]:
+        if event.is_output:
+            word = sink_of(names, event)
+            found.setdefault(word, Stretch(word)).add(event.number, event.data)
     return found
+
+
+def sink_of(names, event):
+    """The word of the sink that an output went to."""
+    if event.did == "console":
+        return "console"
+    return file_word(names, event.file) if event.did == "put" else f"device:{event.device}"
+
+
+def called(word):
+    """What a sink or an input is called in a sentence."""
+    kind, colon, name = word.partition(":")
+    return f"{kind} {name}" if colon else word
 
 
 def is_own(name):
@@ -150,21 +178,69 @@ def wholes(history):
     return found
 
 
-def inputs(history):
-    """What came in, by its word: `input`, `file:NAME`, `device:N`. Typed bytes and the pieces of a recorded input are one input."""
-    found, whole = {}, wholes(history)
-    for event in history.events:
-        name = whole.get(event.name, event.name) if event.kind == "file" else None
-        if event.kind == "type" or name is not None and name == INPUT:
-            word = "input"
-        elif name is not None and not is_own(name):
-            word = "file:" + texts.shown(name)
-        elif event.did == "reply":
-            word = f"device:{event.device}"
+def started_with(image):
+    """The words and the variables that the launcher hands over: of each what it is called, its place in the image, and its bytes."""
+    begin = image.rfind(BLOCK_NAME)
+    if begin < 0 or begin + BLOCK_TEXTS > len(image):
+        return
+    words, variables = struct.unpack_from("<II", image, begin + len(BLOCK_NAME))
+    at = begin + BLOCK_TEXTS
+    for number, text in enumerate(image[at:].split(b"\0")[:words + variables]):
+        if number < words:
+            yield f"argument:{number}", at, text
         else:
-            continue
-        found.setdefault(word, Stretch(word)).add(event.number, event.data)
-    return found
+            yield "variable:" + texts.shown(text.partition(b"=")[0]), at, text
+        at += len(text) + 1
+
+
+def is_program(data):
+    """Whether a file is a program of the machine."""
+    return data.startswith(PROGRAMS)
+
+
+class Inputs:
+    """What came in. `stretches` are by their words: `input`, `file:NAME`, `program:NAME`, `argument:N`, `variable:NAME`, `device:N`.
+
+    Typed bytes and the pieces of a recorded input are one input. What the launcher reads beside these is none.
+    """
+
+    def __init__(self, history):
+        self.stretches, self.of = {}, {}
+        whole = wholes(history)
+        for event in history.events:
+            if event.kind == "type":
+                self.add("input", event.number, event.data)
+            elif event.did == "reply":
+                self.add(f"device:{event.device}", event.number, event.data)
+            elif event.kind == "file" and event.name == START and launch(history) >= 0:
+                for word, at, text in started_with(event.data):
+                    self.add(word, event.number, text, at)
+            elif event.kind == "file":
+                self.add_file(event, whole.get(event.name, event.name))
+
+    def add(self, word, event, data, first=0):
+        """Adds bytes of an event to the stretch of a word."""
+        stretch = self.stretches.setdefault(word, Stretch(word))
+        if data:
+            self.of.setdefault(event, []).append((first, first + len(data), stretch, len(stretch.data) - first))
+        stretch.add(event, data, first)
+
+    def add_file(self, event, name):
+        """Adds a file, or a piece of one."""
+        if name == INPUT:
+            self.add("input", event.number, event.data)
+        elif not is_own(name):
+            word = "file:" + texts.shown(name)
+            is_first = word not in self.stretches
+            self.add("program:" + texts.shown(name) if is_first and is_program(event.data) else word, event.number, event.data)
+
+    def find(self, event, at):
+        """The stretch that a byte of an event is in, and how far its place there is from that in the event; None where it is in none."""
+        return next(((stretch, offset) for first, end, stretch, offset in self.of.get(event, ()) if first <= at < end), None)
+
+    def given(self):
+        """The stretches in which a text is looked for: all but programs."""
+        return [stretch for stretch in self.stretches.values() if not stretch.name.startswith("program:")]
 
 
 def line_of(data, at):

@@ -1,11 +1,24 @@
 """arn reach: which outputs some input bytes reached."""
+from typing import NamedTuple
+
 from arnlib import asking, places, sources, targets, texts
-from arnlib.faults import FOUND, NOTHING, Fault
+from arnlib.faults import FOUND, NOTHING, UNASKED, Fault
 
 DESCRIPTION = """Says which outputs some bytes of an input reached: the console, files, devices. The bytes are those of a text in what
-came in, or bytes of an event. The linkage says which instructions pass bytes on (docs/LINEAGE.md)."""
+came in (each place of it), or bytes of an event. The linkage says which instructions pass bytes on (docs/LINEAGE.md): what a program
+decides by a byte isn't followed. The status is 1 where they reached nothing."""
 EXAMPLE = """example:
-  arn reach leak.log battery9"""
+  arn reach two.log secret          which outputs the bytes of `secret` in the input reached"""
+
+
+class Flow(NamedTuple):
+    """Bytes of an input that reached bytes of an output: of each the stretch, the first and the last byte there."""
+    source: places.Stretch
+    source_first: int
+    source_last: int
+    sink: places.Stretch
+    first: int
+    last: int
 
 
 def add_words(parser):
@@ -15,75 +28,71 @@ def add_words(parser):
     parser.add_argument("--linkage", choices=sources.LINKAGES, default="copy", help="copy where it isn't given")
 
 
-def ranges(history, options):
-    """The ranges of input bytes that are asked about: the event, the first byte and how many."""
-    match = None if options.text else targets.EVENT.fullmatch(options.target)
-    if match:
-        first = int(match[2])
-        last = int(match[3]) if match[3] else first
-        targets.of_event(history, int(match[1]), first, last)
-        return [places.Piece(int(match[1]), first, last - first + 1)]
-    wanted = targets.text_bytes(options.target)
-    found = targets.matches(places.inputs(history), wanted)
+def ranges(history, word, is_text, nothing):
+    """The ranges of inputs that a word names: the stretch, the first byte and how many. `nothing` is the status where there are none."""
+    inputs = places.Inputs(history)
+    target = None if is_text else targets.in_words(history, word)
+    if target is not None:
+        piece = target.pieces[0]
+        ends = [inputs.find(piece.event, at) for at in (piece.first, piece.first + piece.length - 1)]
+        if None in ends or ends[0][0] is not ends[1][0]:
+            raise Fault(f"{target.called(0, target.length - 1)}: these bytes didn't come in", UNASKED)
+        return [(ends[0][0], piece.first + ends[0][1], piece.length)]
+    wanted = targets.text_bytes(word)
+    found = targets.matches(inputs.given(), wanted)
     if not found:
-        raise Fault(f"nothing that came in has {texts.quoted(wanted)}", NOTHING)
-    return [piece for stretch, at in found for piece in stretch.ranges(at, len(wanted))]
+        raise Fault(f"nothing that came in has {texts.quoted(wanted)}", nothing)
+    return [(stretch, at, len(wanted)) for stretch, at in found]
 
 
-def forth(log, linkage, piece):
-    """The output bytes that a range reaches: by event, the places in it, each with the byte of the range."""
-    reached = {}
-    for first, count in sources.pieces(None, piece.length):
-        found, _ = sources.pairs_in(log.ask(f"forth {linkage} {piece.event} {piece.first + first} {count}"), "forth")
-        for byte, pairs in found.items():
-            for event, at in pairs:
-                reached.setdefault(event, {}).setdefault(at, set()).add(first + byte)
+def reached_by(log, linkage, stretch, at, length):
+    """The output bytes that a range of an input reaches: of each, an event and a byte of it, the bytes of the input."""
+    reached, begin = {}, at
+    for piece in stretch.ranges(at, length):
+        for first, count in sources.pieces(piece.length):
+            answer = log.ask(f"forth {linkage} {piece.event} {piece.first + first} {count}")
+            for byte, pairs in sources.pairs_in(answer, "forth").items():
+                for place in pairs:
+                    reached.setdefault(place, []).append(begin + first + byte)
+        begin += piece.length
     return reached
 
 
-def spans(places_in):
-    """Places as the first and the last of each stretch of them."""
-    made = []
-    for at in sorted(places_in):
-        if made and made[-1][1] == at - 1:
-            made[-1][1] = at
-        else:
-            made.append([at, at])
-    return made
+def flows(log, history, linkage, one):
+    """The flows of a range of an input, in the order of sinks and of their bytes."""
+    stretch, at, length = one
+    reached = reached_by(log, linkage, stretch, at, length)
+    for sink in places.writes(history).values():
+        came = {place: reached[event, first + place - begin]
+                for begin, (event, first, count) in zip(sink.begins, sink.pieces)
+                for place in range(begin, begin + count) if (event, first + place - begin) in reached}
+        for first, last in sources.spans(came):
+            given = [byte for place in range(first, last + 1) for byte in came[place]]
+            yield Flow(stretch, min(given), max(given), sink, first, last)
 
 
-def target_name(history, event):
-    """What an output is called."""
-    record = history.events[event]
-    if record.did == "console":
-        return "console"
-    if record.did == "put":
-        name = places.file_names(history).get(record.file, str(record.file).encode())
-        return f"file {texts.shown(name)}"
-    return f"device {record.device}"
-
-
-def print_reached(history, options, piece, event, reached):
-    """Prints which bytes of an output a range reached."""
-    data, name = history.events[event].data, target_name(history, event)
-    for first, last in spans(reached):
-        if options.json:
-            asking.print_object(source=piece._asdict(), event=event, to=name, first=first, last=last,
-                                **texts.as_json(data[first:last + 1]))
-        else:
-            print(f"{name}, event {event} bytes {texts.span(first, last)} {sources.in_line(data, first, last)}")
+def print_flow(options, flow):
+    """Prints a flow."""
+    pieces = flow.sink.ranges(flow.first, flow.last - flow.first + 1)
+    if options.json:
+        asking.print_object(source=asking.as_place(flow.source, flow.source_first, flow.source_last),
+                            sink=asking.as_place(flow.sink, flow.first, flow.last), linkage=options.linkage)
+        return
+    of = targets.of_pieces(pieces, None).called(0, flow.last - flow.first)
+    print(f"{sources.range_told(flow.source, flow.source_first, flow.source_last)} -> {places.called(flow.sink.name)}, {of} "
+          f"{sources.in_line(flow.sink.data, flow.first, flow.last)}")
 
 
 def run(options):
     is_found = False
     with asking.opened(options) as log:
         history = log.history()
-        launched = places.launch(history)
-        for piece in ranges(history, options):
-            for event, reached in sorted(forth(log, options.linkage, piece).items()):
-                if event > launched:
-                    print_reached(history, options, piece, event, reached)
-                    is_found = True
+        found = ranges(history, options.target, options.text, NOTHING)
+        asking.say_how_long(history.total * len(found))
+        for one in found:
+            for flow in flows(log, history, options.linkage, one):
+                print_flow(options, flow)
+                is_found = True
     if not is_found and not options.json:
-        print(f"no output, by {options.linkage}")
+        print(f"no output, by {options.linkage}; branches aren't followed")
     return FOUND if is_found else NOTHING

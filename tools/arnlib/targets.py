@@ -12,12 +12,48 @@ NAMES = ["zero", "ra", "sp", "gp", "tp", "t0", "t1", "t2", "s0", "s1", *(f"a{k}"
 REGISTERS = {**{name: number for number, name in enumerate(NAMES)}, **{f"x{number}": number for number in range(32)}, "fp": 8}
 
 
-class Target(NamedTuple):
-    """Bytes that are asked about: what they are called, how many, and the words of a `back` line for so many from a place on."""
-    name: str
+class Part(NamedTuple):
+    """A part of a target that a line asks for: how many bytes, and the words of a `back` line for so many of them from a place on."""
     length: int
     words: Callable
+
+
+class Target(NamedTuple):
+    """Bytes that are asked about: what they are called, their parts, and of written bytes which these are and in which events."""
+    name: str
+    parts: tuple
     data: bytes | None = None
+    pieces: tuple = ()
+
+    @property
+    def length(self):
+        return sum(part.length for part in self.parts)
+
+    def within(self, first, last):
+        """The pieces of some of its bytes."""
+        found, begin = [], 0
+        for piece in self.pieces:
+            low, high = max(first, begin), min(last + 1, begin + piece.length)
+            if low < high:
+                found.append(places.Piece(piece.event, piece.first + low - begin, high - low))
+            begin += piece.length
+        return found
+
+    def called(self, first, last):
+        """What some of its bytes are called, with their text where it is known."""
+        pieces = self.within(first, last)
+        if not pieces:
+            name = self.name + ("" if self.length == last - first + 1 else f", of these {texts.span(first, last)}")
+        elif len(pieces) == 1:
+            name = f"event {pieces[0].event} {spanned(pieces[0].first, pieces[0].first + pieces[0].length - 1)}"
+        else:
+            name = f"events {pieces[0].event}-{pieces[-1].event}"
+        return f"{name} {texts.quoted(self.data[first:last + 1])}" if self.data is not None else name
+
+
+def spanned(first, last):
+    """Bytes of an event in words."""
+    return ("byte " if first == last else "bytes ") + texts.span(first, last)
 
 
 def of_event(history, number, first, last):
@@ -26,10 +62,15 @@ def of_event(history, number, first, last):
         raise Fault(f"there is no event {number}: the last one is {len(history.events) - 1}")
     event = history.events[number]
     if not first <= last < event.length:
-        raise Fault(f"event {number} has no bytes {texts.span(first, last)}: it has {texts.plural(event.length, 'byte')}")
-    data = event.data[first:last + 1] if event.data is not None else None
-    return Target(f"event {number} bytes {texts.span(first, last)}", last - first + 1,
-                  lambda at, count: f"event {number} {first + at} {count}", data)
+        raise Fault(f"event {number} has no {spanned(first, last)}: it has {texts.plural(event.length, 'byte')}")
+    data = bytes(event.data[first:last + 1]) if event.data is not None else None
+    return of_pieces([places.Piece(number, first, last - first + 1)], data)
+
+
+def of_pieces(pieces, data):
+    """Bytes of one event or of several, one behind the other."""
+    parts = tuple(Part(piece.length, lambda at, count, piece=piece: f"event {piece.event} {piece.first + at} {count}") for piece in pieces)
+    return Target("", parts, data, tuple(pieces))
 
 
 def in_words(history, word):
@@ -43,7 +84,7 @@ def in_words(history, word):
 
 def matches(stretches, wanted):
     """Each place of some bytes in some stretches: the stretch and the place, in the order of the events that they are of."""
-    found = [(stretch.order(at, len(wanted)), index, stretch, at) for index, stretch in enumerate(stretches.values())
+    found = [(stretch.order(at, len(wanted)), index, stretch, at) for index, stretch in enumerate(stretches)
              for at in stretch.find_all(wanted)]
     return [(stretch, at) for *_, stretch, at in sorted(found, key=lambda one: (one[0], one[1], one[3]))]
 
@@ -59,9 +100,9 @@ def text_bytes(text):
     return data
 
 
-def of_place(history, stretch, at, length):
-    """The targets of a range of a stretch, one for each event."""
-    return [of_event(history, piece.event, piece.first, piece.first + piece.length - 1) for piece in stretch.ranges(at, length)]
+def of_place(stretch, at, length):
+    """The target of a range of a stretch."""
+    return of_pieces(stretch.ranges(at, length), bytes(stretch.data[at:at + length]))
 
 
 def number(word):
@@ -71,27 +112,62 @@ def number(word):
     return int(word, 0)
 
 
-def at_moment(options):
-    """The target that --at and its words name."""
-    moment = options.at
-    if options.file is not None:
-        match = RANGE.fullmatch(options.file)
-        if match is None:
-            raise Fault("--file is NAME:FROM-TO")
-        first, last = int(match[2]), int(match[3])
-        return Target(f"file {texts.safe(match[1])} bytes {texts.span(first, last)} at moment {moment}", last - first + 1,
-                      lambda at, count: f"name {moment} {match[1]} {first + at} {count}")
-    if options.pid is None:
-        raise Fault("--at wants --pid with --mem or --reg, or --file")
-    if options.reg is not None:
-        register = REGISTERS.get(options.reg)
-        if register is None:
-            raise Fault(f"there is no register {texts.safe(options.reg)}")
-        return Target(f"register {options.reg} of process {options.pid} at moment {moment}", 8,
-                      lambda at, count: f"reg {moment} {options.pid} {register}")
-    if options.mem is None:
-        raise Fault("--pid wants --mem or --reg")
-    address, plus, length = options.mem.partition("+")
+def one_part(name, length, words):
+    """A target of one part."""
+    return Target(name, (Part(length, words),))
+
+
+def of_memory(moment, pid, name, address, length):
+    """Bytes of a process's memory."""
+    return one_part(f"{name} of process {pid} at moment {moment}", length, lambda at, count: f"mem {moment} {pid} {address + at:#x} {count}")
+
+
+def of_register(moment, pid, name):
+    """The eight bytes of a register."""
+    register = REGISTERS.get(name)
+    if register is None:
+        raise Fault(f"there is no register {texts.safe(name)}")
+    return one_part(f"register {name} of process {pid} at moment {moment}", 8, lambda at, count: f"reg {moment} {pid} {register}")
+
+
+def of_file(moment, word):
+    """Bytes of a file."""
+    match = RANGE.fullmatch(word)
+    if match is None or not is_name(match[1]):
+        raise Fault("--file is NAME:FROM-TO")
+    first, last = int(match[2]), int(match[3])
+    if last < first:
+        raise Fault(f"--file {word}: it ends before it begins")
+    return one_part(f"file {match[1]} {spanned(first, last)} at moment {moment}", last - first + 1,
+                    lambda at, count: f"name {moment} {match[1]} {first + at} {count}")
+
+
+def is_name(word):
+    """Whether a word can be the name of a file."""
+    return 1 <= len(word) <= 64 and all("!" <= letter <= "~" for letter in word)
+
+
+def memory_range(word):
+    """The address and the length that a word ADDRESS+LEN says; one byte where there is no length."""
+    address, plus, length = word.partition("+")
     address, length = number(address), number(length) if plus else 1
-    return Target(f"memory of process {options.pid} at {address:#x}, {texts.plural(length, 'byte')}, at moment {moment}", length,
-                  lambda at, count: f"mem {moment} {options.pid} {address + at:#x} {count}")
+    if length == 0:
+        raise Fault(f"{texts.safe(word)}: that are no bytes")
+    return address, length
+
+
+def at_moment(options, variable):
+    """The target that --at and its words name. `variable` gives the address and the length of a global variable of the process."""
+    moment, pid = options.at, options.pid
+    if sum(word is not None for word in (options.file, options.mem, options.reg, options.var)) != 1:
+        raise Fault("--at wants --pid with --mem, --reg or --var, or --file")
+    if options.file is not None:
+        return of_file(moment, options.file)
+    if pid is None:
+        raise Fault("--at wants --pid with --mem, --reg or --var")
+    if options.reg is not None:
+        return of_register(moment, pid, options.reg)
+    if options.var is not None:
+        return of_memory(moment, pid, f"variable {options.var}", *variable(options.var))
+    address, length = memory_range(options.mem)
+    return of_memory(moment, pid, f"memory at {address:#x}, {texts.plural(length, 'byte')},", address, length)

@@ -1,38 +1,59 @@
 """arn why: which input bytes some bytes came from."""
-import json
+import functools
+import sys
+from typing import NamedTuple
 
-from arnlib import logs, places, sources, targets, texts
+from arnlib import asking, places, sources, symbols, targets, texts, ways
 from arnlib.faults import FOUND, NOTHING, Fault
 
-DESCRIPTION = """Says which input bytes some bytes came from: those of a text in what the program wrote, those of an event, or
-those of a process's memory, of a register or of a file at a moment. Each byte is asked by the linkage `copy`; bytes without a source
-by `data`, then by `index` (docs/LINEAGE.md)."""
-EXAMPLE = """example:
-  arn why leak.log battery9        where the last `battery9` in the output came from
-  arn why leak.log 7:18-25         the same by its bytes in event 7"""
+DESCRIPTION = """Says which input bytes some bytes came from: those of a text in what the program wrote, those of an event, or those of
+memory, of a variable, of a register or of a file at a moment. Each byte is asked by the linkage `copy`; bytes without a source by
+`data`, then by `index` (docs/LINEAGE.md). Each answer names the events by which the bytes came, and where in the program their calls
+were made. The status is 1 where no byte came from an input."""
+EXAMPLE = """TEXT has C's escapes. FROM and TO are the first and the last byte.
+
+examples:
+  arn why two.log secret                            where the last `secret` that was written came from
+  arn why two.log 7:18-25                           where bytes 18 to 25 of event 7 came from
+  arn why two.log --at 9000 --pid 1 --var total     where the bytes of a variable came from"""
+
+# How many ranges of sources are told of a run of bytes.
+MOST_RANGES = 20
+
+
+class Answer(NamedTuple):
+    """A run of a target's bytes, the linkage that found its sources, and the way of each of their ranges; no ways where none are asked."""
+    linkage: str
+    run: sources.Run
+    steps: tuple
 
 
 def add_words(parser):
-    parser.add_argument("log", metavar="LOG")
-    parser.add_argument("target", metavar="TEXT|E:FROM-TO", nargs="?", help="a text with C's escapes, or bytes of an event")
+    asking.add_log(parser)
+    parser.add_argument("target", metavar="TEXT|E:FROM-TO", nargs="?", help="a text, or bytes of an event")
     parser.add_argument("--text", action="store_true", help="the word is a text, also where it looks like bytes of an event")
     parser.add_argument("--all", action="store_true", help="each place of the text, not the last one alone")
     parser.add_argument("--linkage", choices=sources.LINKAGES, help="ask by this linkage alone")
+    parser.add_argument("--ways", choices=("yes", "no", "auto"), default="auto",
+                        help=f"whether the events on the way are told; auto: where at most {ways.MOST_FOLLOWED:,} instructions run again")
     parser.add_argument("--at", metavar="MOMENT", type=targets.number, help="what is asked is as it was at this moment")
     parser.add_argument("--pid", metavar="P", type=targets.number, help="of this process")
     parser.add_argument("--mem", metavar="ADDRESS+LEN", help="so many bytes of its memory")
+    parser.add_argument("--var", metavar="NAME", help="its global variable of this name")
     parser.add_argument("--reg", metavar="NAME", help="its register: x0 to x31, or a name such as a0")
     parser.add_argument("--file", metavar="NAME:FROM-TO", help="bytes of the file that had this name then")
-    parser.add_argument("--json", action="store_true", help="one object a line")
-    parser.add_argument("--program", help="the program arnold")
 
 
-def chosen(history, options):
+def chosen(asked, options):
     """What is asked about: targets, and how many places a text has in all."""
+    history = asked.history
     if options.at is not None:
         if options.target is not None:
             raise Fault("--at says what is asked: no text beside it")
-        return [targets.at_moment(options)], None
+        variable = functools.partial(asking.variable, asked.programs, history, options.pid, options.at)
+        return [targets.at_moment(options, variable)], None
+    if any(word is not None for word in (options.pid, options.mem, options.var, options.reg, options.file)):
+        raise Fault("--pid, --mem, --var, --reg and --file want --at MOMENT")
     if options.target is None:
         raise Fault("what is asked: a text, E:FROM-TO, or --at with its words?")
     named = None if options.text else targets.in_words(history, options.target)
@@ -43,76 +64,114 @@ def chosen(history, options):
     if not found:
         raise Fault(f"nothing that was written has {texts.quoted(wanted)}", NOTHING)
     taken = found if options.all else found[-1:]
-    return [target for stretch, at in taken for target in targets.of_place(history, stretch, at, len(wanted))], len(found)
+    return [targets.of_place(stretch, at, len(wanted)) for stretch, at in taken], len(found)
 
 
-def sources_of(log, target, linkages):
+def answers_of(asked, target, linkages, follows):
     """The runs of a target's bytes with the linkage that found each, in order; and the bytes that no linkage found."""
-    runs, left, groups = [], set(range(target.length)), set()
+    answers, left = [], set(range(target.length))
     for linkage in linkages:
         if not left:
             break
-        found, last = sources.back(log, linkage, target.words, target.length)
-        groups.update(last[last.index("groups") + 1:])
-        for run in sources.runs_of({byte: pairs for byte, pairs in found.items() if byte in left}):
-            runs.append((linkage, run))
+        found = sources.back(asked.log, asked.inputs, linkage, target.parts)
+        for run in sources.runs_of({byte: here for byte, here in found.items() if byte in left}, asked.inputs):
+            answers.append(Answer(linkage, run, ways_of(asked, target, linkage, run) if follows else ()))
             left -= set(range(run.first, run.last + 1))
-    return sorted(runs, key=lambda one: one[1].first), left
+    return sorted(answers, key=lambda one: one.run.first), left
 
 
-def as_spans(left):
-    """Bytes as the first and the last of each stretch of them."""
-    spans = []
-    for byte in sorted(left):
-        if spans and spans[-1][1] == byte - 1:
-            spans[-1][1] = byte
-        else:
-            spans.append([byte, byte])
-    return spans
+def ways_of(asked, target, linkage, run):
+    """The way of each range of a run's sources to the last event that the run is in. Bytes of programs are in each process: they have none."""
+    made = []
+    for one in run.ranges[:MOST_RANGES]:
+        if one.stretch.name.startswith("program:"):
+            made.append([])
+            continue
+        wanted = sources.Run(run.first, run.last, (one,)).wanted()
+        made.append([step for piece in target.within(run.first, run.last)[-1:] for step in asked.ways.to(linkage, piece.event, wanted)])
+    return tuple(made)
 
 
-def part_of(target, first, last):
-    """What bytes of a target are called, with their text where it is known."""
-    if target.length == last - first + 1:
-        name = target.name
-    else:
-        name = f"{target.name}, of these {texts.span(first, last)}"
-    return f"{name} {texts.quoted(target.data[first:last + 1])}" if target.data else name
+def follows_ways(asked, options, found):
+    """Whether ways are asked for. What takes long is said first."""
+    events = {piece.event for target in found for piece in target.pieces}
+    if options.ways == "no" or not events:
+        return False
+    cost = sum(asked.ways.cost(event) for event in events)
+    if options.ways == "auto" and cost > ways.MOST_FOLLOWED:
+        print(f"arn: without the events on the way, for which {cost:,} instructions may run again (--ways yes)", file=sys.stderr)
+        return False
+    asking.say_how_long(cost)
+    return True
 
 
-def print_answer(history, target, runs, left):
-    """Prints the answer for people."""
-    for linkage, run in runs:
-        how = "" if linkage == "copy" else f", by {linkage}"
-        said = [sources.told(history, run, one) for one in run.ranges]
-        print(f"{part_of(target, run.first, run.last)} <- {said[0]}{how}")
-        for more in said[1:]:
-            print(f"    and {more}")
-    for first, last in as_spans(left):
-        print(f"{part_of(target, first, last)} <- no input")
+def told(asked, target, answer):
+    """An answer in lines."""
+    run, how = answer.run, "" if answer.linkage == "copy" else f", by {answer.linkage}"
+    for index, one in enumerate(run.ranges[:MOST_RANGES]):
+        steps = answer.steps[index] if answer.steps else ()
+        way = f", by {ways.told(steps, asked.place_of)}" if steps else ""
+        said = f"{sources.told(run, one)}{how}{way}"
+        yield f"{target.called(run.first, run.last)} <- {said}" if index == 0 else f"    and {said}"
+    if len(run.ranges) > MOST_RANGES:
+        yield f"    and {len(run.ranges) - MOST_RANGES} more ranges (--json: all)"
 
 
-def print_objects(history, target, runs, left):
-    """Prints the answer as objects."""
-    for linkage, run in runs:
-        ranges = [{"event": event, "from": at, "bytes": count, "step": step, "name": sources.named(history, event)[0]}
-                  for event, at, count, step in run.ranges]
-        print(json.dumps({"of": target.name, "from": run.first, "to": run.last, "linkage": linkage, "sources": ranges}))
-    for first, last in as_spans(left):
-        print(json.dumps({"of": target.name, "from": first, "to": last, "sources": []}))
+def print_answer(asked, target, answers, left):
+    """Prints what was found of a target for people."""
+    lines = [(answer.run.first, list(told(asked, target, answer))) for answer in answers]
+    lines += [(first, [f"{target.called(first, last)} <- from no input"]) for first, last in sources.spans(left)]
+    for _, some in sorted(lines, key=lambda one: one[0]):
+        print("\n".join(some))
+
+
+def as_step(asked, step):
+    """A step of a way for a JSON object."""
+    events, several = step
+    return {"one_of": several, "events": [{"event": event, "place": asked.place_of(event)} for event in events]}
+
+
+def print_objects(asked, target, answers, left):
+    """Prints the same as objects."""
+    for answer in answers:
+        ranges = [{**asking.as_place(one.stretch, *one.span(answer.run.length)), "step": one.step} for one in answer.run.ranges]
+        for made, steps in zip(ranges, answer.steps):
+            made["way"] = [as_step(asked, step) for step in steps]
+        asking.print_object(**bytes_of(target, answer.run.first, answer.run.last), linkage=answer.linkage, sources=ranges)
+    for first, last in sources.spans(left):
+        asking.print_object(**bytes_of(target, first, last), sources=[])
+
+
+def bytes_of(target, first, last):
+    """What some of a target's bytes are, for a JSON object."""
+    made = {"of": target.called(first, last), "from": first, "to": last, "bytes": asking.as_bytes(target.within(first, last))}
+    return {**made, **(texts.as_json(target.data[first:last + 1]) if target.data is not None else {})}
+
+
+class Asked:
+    """All that a question about a log needs."""
+
+    def __init__(self, log, path):
+        self.log, self.history = log, log.history()
+        self.inputs, self.programs = places.Inputs(self.history), symbols.Programs(path, self.history)
+        self.ways = ways.Ways(log, self.history, self.inputs, places.launch(self.history))
+
+    def place_of(self, event):
+        """Where an event's call was made."""
+        return self.programs.place_of(self.log, event)
 
 
 def run(options):
-    with logs.AskedLog(options.log, options.program) as log:
-        log.say_what_is_missing()
-        history = log.history()
-        asked, count = chosen(history, options)
+    with asking.opened(options) as log:
+        asked = Asked(log, options.log)
+        found, count = chosen(asked, options)
         if count is not None and count > 1 and not options.all and not options.json:
-            print(f"the last of {count} places (--all: each)")
+            print(f"the last of {count:,} places (--all: each)")
         linkages = (options.linkage,) if options.linkage else sources.LINKAGES
-        has_source = False
-        for target in asked:
-            runs, left = sources_of(log, target, linkages)
-            has_source = has_source or bool(runs)
-            (print_objects if options.json else print_answer)(history, target, runs, left)
+        follows, has_source = follows_ways(asked, options, found), False
+        print_found = print_objects if options.json else print_answer
+        for target in found:
+            answers, left = answers_of(asked, target, linkages, follows)
+            has_source = has_source or bool(answers)
+            print_found(asked, target, answers, left)
     return FOUND if has_source else NOTHING

@@ -1,0 +1,121 @@
+"""The ways of bytes: the events between inputs and an output, and where in the program each call was made.
+
+From one process to another a way is exact: a read's record names the event and the place of each byte that was received. Inside a
+group of processes the program doesn't answer which of several receipts of a byte was used, so these are told as `one of`.
+"""
+from arnlib import sources
+
+# How many instructions and received bytes are followed again for ways at most, where nobody asked for them.
+MOST_FOLLOWED = 500_000_000
+
+
+class Ways:
+    """Asks for the ways in a log. `inputs` is where bytes came in, and what came before the event `launched` is no step of a way."""
+
+    def __init__(self, log, history, inputs, launched):
+        self.log, self.events, self.inputs, self.launched = log, history.events, inputs, launched
+        self.received, self.begun, self.asked = {}, {}, {}
+        for event in self.events[launched + 1:]:
+            if event.is_received:
+                self.received.setdefault(event.group, []).append(event)
+            if event.did == "start":
+                self.begun[event.result] = event
+
+    def receipts(self, event):
+        """What the group of an event had received before it."""
+        return [one for one in self.received.get(event.group, ()) if one.number < event.number]
+
+    def senders(self, number):
+        """The events that gave bytes which may have come to an event, through any groups."""
+        found, left, seen = set(), [self.events[number]], {number}
+        while left:
+            event = left.pop()
+            before = {origin for one in self.receipts(event) for origin, _, _ in one.origins if not self.events[origin].is_input}
+            if event.group in self.begun:
+                before.add(self.begun[event.group].number)
+            found |= {origin for origin in before if self.events[origin].length}
+            left += [self.events[origin] for origin in before - seen]
+            seen |= before
+        return found
+
+    def cost(self, number):
+        """How many instructions and received bytes are followed again at most for the ways to an event."""
+        cost = got = 0
+        senders = self.senders(number)
+        for event in self.events:
+            cost += event.moment + got if event.number in senders and event.number not in self.asked else 0
+            got += event.length if event.is_received else 0
+        return cost
+
+    def sources(self, linkage, number):
+        """Of each byte of an event the places in inputs that it came from."""
+        key = linkage, number
+        if key not in self.asked:
+            part = min(self.events[number].length, sources.MOST_RANGE), lambda at, count: f"event {number} {at} {count}"
+            self.asked[key] = sources.back(self.log, self.inputs, linkage, [part])
+        return self.asked[key]
+
+    def carried(self, linkage, receipt, wanted):
+        """Of each event of which a receipt has some of the wanted source bytes, which these are."""
+        found = {}
+        for number, place, length in receipt.origins:
+            if self.events[number].is_input:
+                input_at = self.inputs.find(number, place)
+                if input_at is None:
+                    continue
+                stretch, offset = input_at
+                here = {one for one in wanted if one[0] == stretch.name and place + offset <= one[1] < place + offset + length}
+            else:
+                given = self.sources(linkage, number)
+                here = {one for at in range(place, place + length) for one in given.get(at, ())} & wanted
+            if here:
+                found.setdefault(number, set()).update(here)
+        return found
+
+    def step(self, linkage, event, wanted):
+        """How the wanted bytes came to an event's group: of each receipt, or of the fork that began the group, which of them it had; and
+        the events in front of these, with the bytes that are wanted of them."""
+        layer, before = {}, {}
+        for receipt in self.receipts(event):
+            for number, here in self.carried(linkage, receipt, wanted).items():
+                layer.setdefault(receipt.number, set()).update(here)
+                if not self.events[number].is_input:
+                    before.setdefault(number, set()).update(here)
+        fork = self.begun.get(event.group)
+        if fork is not None:
+            earlier, _ = self.step(linkage, fork, wanted)
+            if earlier:
+                layer[fork.number] = before[fork.number] = set().union(*earlier.values())
+        return layer, before
+
+    def to(self, linkage, number, wanted):
+        """The way of source bytes to an event: steps, each the events that are one of it or all of it, and whether it is one of them."""
+        steps, after, seen = [], {number: wanted}, set()
+        while after:
+            layer, before = {}, {}
+            for event, bytes_of in after.items():
+                received, given = self.step(linkage, self.events[event], bytes_of)
+                for found, more in ((layer, received), (before, given)):
+                    for one, here in more.items():
+                        found.setdefault(one, set()).update(here)
+            add_step(steps, layer)
+            add_step(steps, {one: here for one, here in before.items() if one not in layer})
+            after = {one: here for one, here in before.items() if one not in seen}
+            seen |= set(after)
+        return steps[::-1]
+
+
+def add_step(steps, layer):
+    """Adds a step of a way, if there is one."""
+    if layer:
+        several = sum(map(len, layer.values())) > len(set().union(*layer.values()))
+        steps.append((sorted(layer), several))
+
+
+def told(steps, place_of):
+    """A way in words. `place_of` says of an event where its call was made."""
+    said = []
+    for events, several in steps:
+        names = [f"{event} {place}" if (place := place_of(event)) else str(event) for event in events]
+        said.append(("one of " if several else "") + (", " if several else " and ").join(names))
+    return " > ".join(said)
