@@ -1,7 +1,9 @@
 """What ends a subcommand early: one line that says why, and a status."""
+import sys
 
-# The statuses of questions: something was found, nothing was found, it couldn't be asked.
+# The statuses of questions: something was found, nothing was found, it couldn't be asked. And that of a recording that failed.
 FOUND, NOTHING, UNASKED = 0, 1, 2
+FAILED = 125
 
 
 class Fault(Exception):
@@ -10,3 +12,12 @@ class Fault(Exception):
     def __init__(self, said, status=None):
         super().__init__(said)
         self.status = status
+
+
+def say(text, end="\n"):
+    """Prints on standard error. Where that is closed or full, nothing is said."""
+    try:
+        if sys.stderr is not None:
+            print(text, end=end, file=sys.stderr, flush=True)
+    except OSError:
+        pass

@@ -4,9 +4,11 @@ import importlib
 import os
 import sys
 
-from arnlib.faults import Fault, UNASKED
+from arnlib import texts
+from arnlib.faults import Fault, UNASKED, say
 
 VERSION = "arn 1"
+INTERRUPTED, CLOSED = 130, 141
 
 # Of each subcommand the file that has it, and what it does. A file of that name has DESCRIPTION, EXAMPLE, `add_words(parser)` and
 # `run(options)`, which gives the status; FAULT, the status of faults, where that isn't 2; and PROGRAM_WORDS where what stands behind
@@ -33,15 +35,18 @@ COMMANDS = {
 
 DESCRIPTION = "Records programs, and says of any byte which input bytes it came from."
 EXAMPLE = """examples:
-  arn record examples/leak/leak.img < names.txt    runs a program, and keeps all of it in leak.log
-  arn why leak.log 'battery9'                      says where this text in the output came from
-  arn why --help                                   says more about one subcommand"""
+  echo 'ann opensesame' | arn record examples/leak/hello.img    runs a program, and keeps all of it in hello.log
+  arn why hello.log ann                                         says where this text in the output came from
+  arn why --help                                                says more about one subcommand"""
 
 
 class Parser(argparse.ArgumentParser):
     """Says what is wrong with the words in one line."""
 
     fault = UNASKED
+
+    def __init__(self, **words):
+        super().__init__(formatter_class=argparse.RawDescriptionHelpFormatter, allow_abbrev=False, **words)
 
     def error(self, message):
         raise Fault(f"{message} (see {self.prog} --help)", self.fault)
@@ -56,8 +61,7 @@ def here(names):
 def whole_parser():
     """The parser of `arn` alone, which lists the subcommands."""
     listed = "\n".join(f"  {name:8} {COMMANDS[name]}" for name in here(COMMANDS))
-    parser = Parser(prog="arn", usage="arn COMMAND [WORD..]", description=DESCRIPTION, epilog=f"commands:\n{listed}\n\n{EXAMPLE}",
-                    formatter_class=argparse.RawDescriptionHelpFormatter)
+    parser = Parser(prog="arn", usage="arn COMMAND [WORD..]", description=DESCRIPTION, epilog=f"commands:\n{listed}\n\n{EXAMPLE}")
     parser.add_argument("--version", action="version", version=VERSION)
     return parser
 
@@ -71,17 +75,28 @@ def split(words):
 def run_command(name, words):
     """Runs a subcommand, and gives its status."""
     command = importlib.import_module(f"arnlib.{name}")
-    parser = Parser(prog=f"arn {name}", description=command.DESCRIPTION, epilog=command.EXAMPLE,
-                    formatter_class=argparse.RawDescriptionHelpFormatter)
+    parser = Parser(prog=f"arn {name}", description=command.DESCRIPTION, epilog=command.EXAMPLE)
     parser.fault = getattr(command, "FAULT", UNASKED)
     try:
         command.add_words(parser)
         words, program_words = split(words) if hasattr(command, "PROGRAM_WORDS") else (words, [])
-        return command.run(parser.parse_args(words, argparse.Namespace(words=program_words)))
+        return command.run(parser.parse_intermixed_args(words, argparse.Namespace(words=program_words)))
     except Fault as fault:
-        if fault.status is None:
-            fault.status = parser.fault
+        fault.status = parser.fault if fault.status is None else fault.status
         raise
+    except BrokenPipeError:
+        raise
+    except OSError as error:
+        raise Fault(said_of(error), parser.fault) from None
+    except UnicodeError as error:
+        raise Fault(f"a word or a name has letters that can't be said here: {error.reason}", parser.fault) from None
+    except MemoryError:
+        raise Fault("there is no memory", parser.fault) from None
+
+
+def said_of(error):
+    """What the system says is wrong, and with which file; standard output has no name."""
+    return f"{'standard output' if error.filename is None else os.fsdecode(error.filename)}: {error.strerror or error}"
 
 
 def lose_output():
@@ -92,35 +107,57 @@ def lose_output():
         pass
 
 
+def write_rest():
+    """Writes what was printed until now, as far as that goes."""
+    try:
+        if sys.stdout is not None:
+            sys.stdout.flush()
+    except OSError:
+        lose_output()
+
+
 def chosen(words):
     """Runs what the words ask for."""
     if words and words[0] in here(COMMANDS):
         return run_command(words[0], words[1:])
     parser = whole_parser()
     if not words:
-        parser.print_help(sys.stderr)
+        say(parser.format_help(), end="")
         return UNASKED
     if words[0].startswith("-"):
         parser.parse_args(words)
     raise Fault(f"there is no command {words[0]!r} (see arn --help)")
 
 
+def flushed(words):
+    """Runs what the words ask for, and gives its status when all that it printed is written."""
+    for stream in (sys.stdout, sys.stderr):
+        if stream is not None:
+            stream.reconfigure(errors="backslashreplace")
+    try:
+        status = chosen(words)
+    except SystemExit as ended:
+        status = ended.code or 0
+    if sys.stdout is not None:
+        sys.stdout.flush()
+    return status
+
+
 def main(words):
     """Runs `arn` with some words, and gives its status."""
     try:
-        status = chosen(words)
-        sys.stdout.flush()
-        return status
+        return flushed(words)
     except Fault as fault:
-        print(f"arn: {fault}", file=sys.stderr)
+        write_rest()
+        say(f"arn: {texts.safe(str(fault))}")
         return UNASKED if fault.status is None else fault.status
     except BrokenPipeError:
         lose_output()
-        return 141
+        return CLOSED
     except KeyboardInterrupt:
-        return 130
+        write_rest()
+        return INTERRUPTED
     except OSError as error:
         lose_output()
-        where = "standard output" if error.filename is None else error.filename
-        print(f"arn: {where}: {error.strerror}", file=sys.stderr)
+        say(f"arn: {texts.safe(said_of(error))}")
         return UNASKED

@@ -1,5 +1,4 @@
 """What `arn record` is given as a program: an image, an ELF file, or sources in C."""
-import hashlib
 import importlib.machinery
 import importlib.util
 import os
@@ -8,13 +7,15 @@ import tempfile
 from typing import NamedTuple
 
 from arnlib import texts
-from arnlib.faults import Fault
+from arnlib.faults import FAILED, Fault
 from arnlib.launcher import MOST_FILE
 from arnlib.program import HERE, TOP
 
-NO_PROGRAM, NONE_THERE, FAILED = 126, 127, 125
+NO_PROGRAM, NONE_THERE = 126, 127
 IMAGE, ELF = b"ARNIMG01", b"\x7fELF"
 ENDINGS = (".c", ".elf", ".img")
+# How much of a file is read at most: an ELF file is longer than its image.
+MOST_READ = 64 * MOST_FILE
 SDK_PLACES = (os.path.join(os.path.dirname(HERE), "sdk"), os.path.join(TOP, "sdk"))
 COMPILED = ("-g", "-O1")
 
@@ -56,20 +57,20 @@ def check_name(name):
 
 
 def name_of(path):
-    """The program's name: that of its file without an ending."""
+    """The program's name: that of its file without an ending, or `program` where that is none."""
     name = os.path.basename(path)
     for ending in ENDINGS:
         if name.endswith(ending):
             name = name[:-len(ending)]
             break
-    return name or "program"
+    return name if is_name(name) else "program"
 
 
 def contents(path):
     """The bytes of a file that is given as a program."""
     try:
         with open(path, "rb") as file:
-            return file.read(4 * MOST_FILE + 1)
+            return file.read(MOST_READ)
     except FileNotFoundError:
         raise Fault(f"{texts.safe(path)}: there is no such program", NONE_THERE) from None
     except OSError as error:
@@ -101,7 +102,6 @@ def image_of(elf, path):
 def read_program(paths):
     """The program that some paths name."""
     name = name_of(paths[0])
-    check_name(name)
     if all(path.endswith(".c") for path in paths):
         elf = compiled(paths)
     elif len(paths) > 1:
@@ -121,7 +121,3 @@ def checked(program, path):
     if len(program.image) > MOST_FILE:
         raise Fault(f"{texts.safe(path)}: a program has at most {MOST_FILE:,} bytes", NO_PROGRAM)
     return program
-
-
-def sum_of(data):
-    return hashlib.sha256(data).hexdigest()

@@ -2,40 +2,76 @@
 import contextlib
 import fcntl
 import os
+import shutil
 import sys
 
-import arnold_log
-from arnlib import launcher, logs, programs, symbols, texts
-from arnlib.faults import Fault
-from arnlib.program import Ended, find_program
-from arnlib.recording import FAILED, Recording, ended_early, summary
+from arnlib import endings, launcher, logs, programs, recording, symbols, texts
+from arnlib.faults import FAILED, Fault, say
+from arnlib.program import find_program
 
 FAULT = FAILED
 PROGRAM_WORDS = True
+MOST_ROUND, MOST_SEED = 1_000_000, 2 ** 64 - 1
 DESCRIPTION = """Runs a program of Arnold's machine on this input, and keeps all of it in a log: what came in, what was written, and
-in which order processes ran. PROGRAM is an ELF file, an image, or sources in C. What the program writes to its console is copied to
-standard output. The status is that of the program, 124 where it waits for what never comes, and 125 where arn itself fails."""
-EXAMPLE = """The program's words stand behind `--`.
+in which order processes ran. PROGRAM is an ELF file, an image, or sources in C. What the program writes to its console, which its
+descriptors 1 and 2 both are, is copied to standard output. On a terminal a line is taken whenever a process waits for one, and
+Ctrl-D ends the input.
+
+The last line on standard error says how it ended. The status is that of the first process, or one of these:
+  124  it waits for what never comes, or --most is reached
+  125  arn itself fails: words, a log that is there already, the compiler, a full log, the program arnold
+  126  PROGRAM is no program of the machine
+  127  there is no PROGRAM
+  129, 130, 141, 143  the terminal went, Ctrl-C, standard output was closed, SIGTERM: the line at hand is ended first, at a second
+       Ctrl-C it isn't; `arn resume LOG` runs it on"""
+EXAMPLE = """The program's words stand behind `--`. `--json` makes the last line of standard error an object: how (exit, fault,
+signal, waits, most, interrupted, closed, failed), status, said, and where there is a log: program, instructions, events, log; of a
+fault also moment, reason, where; of a signal also signal.
 
 example:
-  printf 'ann opensesame\\n' | arn record examples/leak/hello.img"""
+  echo 'ann opensesame' | arn record examples/leak/hello.img"""
 
 
 def add_words(parser):
-    parser.add_argument("-o", dest="log", metavar="LOG", help="the log; NAME.log where it isn't given")
+    parser.add_argument("-o", dest="log", metavar="LOG", help="the log; NAME.log, NAME.1.log .. where it isn't given")
     parser.add_argument("--file", action="append", default=[], metavar="NAME=PATH", help="the machine has this file")
     parser.add_argument("--env", action="append", default=[], metavar="NAME=VALUE", help="a variable of the environment")
-    parser.add_argument("--round", metavar="N", type=int, help="processes run in turn, each for at most N instructions")
-    parser.add_argument("--random", action="store_true", help="processes run in random order")
-    parser.add_argument("--seed", metavar="S", type=int, help="the seed of what is random")
-    parser.add_argument("--most", metavar="N", type=int, help="ends the recording after N instructions")
-    parser.add_argument("--program", dest="arnold", help="the program arnold")
+    add_chooser(parser)
     parser.add_argument("programs", nargs="+", metavar="PROGRAM", help="an ELF file, an image, or sources in C")
 
 
+def add_chooser(parser):
+    """The words about how a program is run, which `arn resume` has as well."""
+    order = parser.add_mutually_exclusive_group()
+    order.add_argument("--round", metavar="N", help="processes run in turn, each for at most N instructions; N is 1,000 else")
+    order.add_argument("--random", action="store_true", help="processes run in random order")
+    parser.add_argument("--seed", metavar="S", help="the seed of what is random: the order, and what device 1 gives; 0 else")
+    parser.add_argument("--most", metavar="N", help="ends the recording after N instructions")
+    parser.add_argument("--json", action="store_true", help="how it ended is one object, on the last line of standard error")
+    parser.add_argument("--program", dest="arnold", metavar="PROGRAM", help="the program arnold")
+
+
+def number(word, option, least, most):
+    """The number of an option, or None where that isn't given."""
+    if word is None:
+        return None
+    if not (word.isascii() and word.isdecimal() and least <= int(word) <= most):
+        raise Fault(f"{option} {texts.safe(word)}: it is a number from {least:,} to {most:,}")
+    return int(word)
+
+
+def chooser(options):
+    """The words of `arnold` that say how processes are chosen. --most becomes a number."""
+    turn, seed = number(options.round, "--round", 1, MOST_ROUND), number(options.seed, "--seed", 0, MOST_SEED)
+    options.most = number(options.most, "--most", 1, MOST_SEED)
+    words = [] if turn is None else ["--round", str(turn)]
+    words += [] if seed is None else ["--seed", str(seed)]
+    return words + ["--random"] * options.random
+
+
 def named_files(given, program):
-    """The files that --file gives, by their names."""
-    files = {}
+    """The files that --file gives, and of those that are ELF files what is kept: the name, the image, the ELF file."""
+    files, kept = {}, []
     for word in given:
         name, equals, path = word.partition("=")
         if not equals:
@@ -43,18 +79,25 @@ def named_files(given, program):
         programs.check_name(name)
         if name in files or name == program.name:
             raise Fault(f"--file {name}: {'that is the program' if name == program.name else 'it is given twice'}")
-        files[name] = limited(file_bytes(path), f"--file {name}")
-    return [launcher.GivenFile(name, data) for name, data in files.items()]
+        data, elf = file_bytes(name, path)
+        files[name] = limited(data, f"--file {name}")
+        kept += [(name, data, elf)] if elf else []
+    return [launcher.GivenFile(name, data) for name, data in files.items()], kept
 
 
-def file_bytes(path):
-    """The bytes of a file for the machine. An ELF file is given as its image."""
+def file_bytes(name, path):
+    """The bytes of a file for the machine, and the ELF file that they are the image of, or None."""
     try:
         with open(path, "rb") as file:
-            data = file.read(4 * launcher.MOST_FILE + 1)
+            data = file.read(programs.MOST_READ)
     except OSError as error:
         raise Fault(f"{texts.safe(path)}: {error.strerror}") from None
-    return programs.image_of(data, path) if data.startswith(programs.ELF) else data
+    if data.startswith(programs.ELF):
+        try:
+            return programs.image_of(data, path), data
+        except Fault as fault:
+            say(f"arn: --file {name} is given as it is, and not as a program: {fault}")
+    return data, None
 
 
 def limited(data, what):
@@ -64,87 +107,111 @@ def limited(data, what):
     return data
 
 
+def check_variables(variables):
+    """Refuses what is no variable of an environment."""
+    for word in variables:
+        if "=" not in word[1:]:
+            raise Fault(f"--env {texts.safe(word)}: it is NAME=VALUE")
+
+
+def terminal():
+    """The descriptor of a terminal that is the input, or None."""
+    return sys.stdin.fileno() if sys.stdin is not None and sys.stdin.isatty() else None
+
+
 def read_input():
-    """The bytes of standard input, or None where that is a terminal."""
-    if sys.stdin is None:
-        return b""
-    if sys.stdin.isatty():
-        return None
-    return limited(sys.stdin.buffer.read(launcher.MOST_FILE + 1), "the input")
+    """The bytes of standard input; none where that is closed."""
+    try:
+        return limited(sys.stdin.buffer.read(launcher.MOST_FILE + 1) if sys.stdin is not None else b"", "the input")
+    except OSError as error:
+        raise Fault(f"standard input: {error.strerror}") from None
+
+
+def paths_of(log):
+    """What a recording of a log leaves."""
+    return log, symbols.folder_of(log)
 
 
 def new_log(named, name):
     """The path of a log that isn't there, which is made, empty, for its owner alone."""
     number = 0
     while True:
-        path = named or (f"{name}.log" if number == 0 else f"{name}.{number}.log")
-        try:
-            os.close(os.open(path, os.O_CREAT | os.O_EXCL | os.O_WRONLY, 0o600))
-            return path
-        except FileExistsError:
-            if named:
-                raise Fault(f"{texts.safe(path)}: it is there already") from None
-            number += 1
-        except OSError as error:
-            raise Fault(f"{texts.safe(path)}: {error.strerror}") from None
+        log = named or (f"{name}.log" if number == 0 else f"{name}.{number}.log")
+        there = next((path for path in paths_of(log) if os.path.lexists(path)), None)
+        if there is None:
+            try:
+                os.close(os.open(log, os.O_CREAT | os.O_EXCL | os.O_WRONLY, 0o600))
+                return log
+            except FileExistsError:
+                there = log
+            except OSError as error:
+                raise Fault(f"{texts.safe(log)}: {error.strerror}") from None
+        if named:
+            raise Fault(f"{texts.safe(there)}: it is there already")
+        number += 1
+
+
+def drop_if_empty(log):
+    """Takes a log away in which nothing was recorded."""
+    if os.path.getsize(log) == 0:
+        os.unlink(log)
+        shutil.rmtree(symbols.folder_of(log), ignore_errors=True)
 
 
 @contextlib.contextmanager
 def locked(log):
     """Holds the lock that tells a recording from a question."""
     path = logs.lock_of(log)
-    with open(path, "w", opener=lambda name, flags: os.open(name, flags, 0o600)) as file:
-        fcntl.flock(file, fcntl.LOCK_EX)
+    with open(path, "wb", opener=lambda name, flags: os.open(name, flags | os.O_NOFOLLOW, 0o600)) as file:
+        try:
+            fcntl.flock(file, fcntl.LOCK_EX | fcntl.LOCK_NB)
+        except BlockingIOError:
+            raise Fault(f"{texts.safe(log)}: it is being recorded") from None
         try:
             yield
         finally:
             os.unlink(path)
 
 
-def chooser(options):
-    """The words of `arnold` that say how processes are chosen."""
-    words = []
-    if options.round is not None:
-        words += ["--round", str(options.round)]
-    if options.seed is not None:
-        words += ["--seed", str(options.seed)]
-    return words + (["--random"] if options.random else [])
-
-
-def session_lines(options, words, program, given):
-    """The lines of the session up to the boot."""
-    files = [launcher.GivenFile(program.name, program.image), *named_files(options.file, program)]
+def session_lines(options, program, files, given):
+    """The lines of the session up to the boot. `given` is the input, or None where it is typed."""
+    files = [launcher.GivenFile(program.name, program.image), *files]
     if given is not None:
         files.append(launcher.GivenFile(launcher.INPUT, given))
-    texts_of = [os.fsencode(word) for word in [program.name, *words]]
-    block = launcher.argument_block(texts_of, [os.fsencode(word) for word in options.env], given is not None)
+    words = [os.fsencode(word) for word in [program.name, *options.words]]
+    block = launcher.argument_block(words, [os.fsencode(word) for word in options.env], given is not None)
     return launcher.lines(program.name, files, block, given is not None)
 
 
-def keep_elf(log, program):
-    """Keeps the ELF file of the program, so that addresses have names."""
-    if program.elf is not None:
-        symbols.keep(log, [(program.name, program.image, program.elf)])
-
-
 def run(options):
-    program = programs.read_program(options.programs)
-    given = read_input()
-    lines = session_lines(options, options.words, program, given)
-    arnold = find_program(options.arnold)
-    log = new_log(options.log, program.name)
-    keep_elf(log, program)
     try:
+        return endings.report(made(options), options.json)
+    except Fault as fault:
+        if not options.json:
+            raise
+        status = FAILED if fault.status is None else fault.status
+        return endings.report(endings.failed(str(fault))._replace(status=status), True)
+
+
+def made(options):
+    """Makes the recording that the words ask for, and gives how it ended."""
+    words, arnold = chooser(options), find_program(options.arnold)
+    check_variables(options.env)
+    if options.log is not None:
+        for path in paths_of(options.log):
+            if os.path.lexists(path):
+                raise Fault(f"{texts.safe(path)}: it is there already")
+    program = programs.read_program(options.programs)
+    files, kept = named_files(options.file, program)
+    typed = terminal()
+    lines = session_lines(options, program, files, None if typed is not None else read_input())
+    log = new_log(options.log, program.name)
+    try:
+        if program.elf is not None:
+            kept.insert(0, (program.name, program.image, program.elf))
+        if kept:
+            symbols.keep(log, kept)
         with locked(log):
-            recording = Recording(arnold, log, chooser(options), options.most)
-            try:
-                recording.give(lines)
-                early = recording.run(sys.stdin.buffer if given is None else None)
-                history = arnold_log.read_history(log)
-                status, said = summary(recording, history, program.name, early, symbols.Programs(log, history))
-            finally:
-                recording.close()
-    except Ended as ended:
-        raise ended_early(ended, log) from None
-    print(said, file=sys.stderr)
-    return status
+            return recording.conduct(arnold, log, words, options, lines, program.name, typed)
+    finally:
+        drop_if_empty(log)
