@@ -1,9 +1,11 @@
 """arn diff: where two recordings differ."""
+from itertools import zip_longest
+
 from arnlib import asking, calls, logs, places, texts
 from arnlib.faults import FOUND, NOTHING
 
-DESCRIPTION = """Finds the first call, by process, at which two recordings differ: in its number, its result or its bytes. The status is
-1 where they differ."""
+DESCRIPTION = """Finds the first call, by process, at which two recordings differ: in its number, its result or its bytes. Where no
+process differs, it finds the first place at which the same calls came in another order. The status is 1 where they differ."""
 EXAMPLE = """example:
   arn diff race.seed1.log race.seed2.log"""
 
@@ -13,46 +15,62 @@ def add_words(parser):
     parser.add_argument("other", metavar="LOG")
 
 
-def by_process(history):
-    """The events of each process behind the launch, in order."""
-    found, launched = {}, places.launch(history)
-    for event in history.events:
-        if event.process is not None and event.number > launched:
-            found.setdefault(event.process, []).append(event)
+def behind_launch(history):
+    """The events of processes behind the launch, in order."""
+    launched = places.launch(history)
+    return [event for event in history.events if event.process is not None and event.number > launched]
+
+
+def by_process(events):
+    """The same events of each process."""
+    found = {}
+    for event in events:
+        found.setdefault(event.process, []).append(event)
     return found
 
 
 def told(event):
     """What of an event is compared."""
-    return event and (event.what, event.result, event.length, event.data, event.status)
+    return event and (event.process, event.what, event.result, event.length, event.data, event.status)
 
 
 def first_difference(ones, others):
-    """The first two events of a process that differ; None for one that isn't there."""
-    for place in range(max(len(ones), len(others))):
-        one, other = (events[place] if place < len(events) else None for events in (ones, others))
-        if told(one) != told(other):
-            return one, other
-    return None
+    """The first two of some events that differ, with None for one that isn't there; None where none differ."""
+    return next((pair for pair in zip_longest(ones, others) if told(pair[0]) != told(pair[1])), None)
+
+
+def differences(ones, others):
+    """Of each process that differs, or of the order of all, what differs and the two events, in order of moments."""
+    all_ones, all_others = by_process(ones), by_process(others)
+    found = [(process, first_difference(all_ones.get(process, []), all_others.get(process, [])))
+             for process in sorted(set(all_ones) | set(all_others))]
+    found = [(process, pair) for process, pair in found if pair]
+    if not found and (pair := first_difference(ones, others)):
+        return [(None, pair)]
+    return sorted(found, key=lambda one: min(event.moment for event in one[1] if event))
 
 
 def line(event):
-    return calls.line(event, None) + f" (event {event.number}, moment {event.moment})" if event else "nothing more"
+    return f"{calls.line(event, None)} (event {event.number}, moment {event.moment})" if event else "nothing more"
+
+
+def print_difference(options, process, pair):
+    """Prints what differs."""
+    if options.json:
+        asking.print_object(process=process, events=[event.number if event else None for event in pair])
+        return
+    print("the same calls of each process, in another order:" if process is None else f"process {process}:")
+    for log, event in zip((options.log, options.other), pair):
+        print(f"  {texts.safe(log)}: {line(event)}")
 
 
 def run(options):
     with asking.opened(options) as log:
-        ones = by_process(log.history())
+        ones = behind_launch(log.history())
     with logs.AskedLog(options.other, options.program) as other_log:
-        others = by_process(other_log.history())
-    found = []
-    for process in sorted(set(ones) | set(others)):
-        pair = first_difference(ones.get(process, []), others.get(process, []))
-        if pair:
-            found.append((min(event.moment for event in pair if event), process, pair))
-    for _, process, pair in sorted(found, key=lambda one: one[:2]):
-        if options.json:
-            asking.print_object(process=process, events=[event.number if event else None for event in pair])
-        else:
-            print(f"process {process}:\n  {texts.safe(options.log)}: {line(pair[0])}\n  {texts.safe(options.other)}: {line(pair[1])}")
+        other_log.say_what_is_missing()
+        others = behind_launch(other_log.history())
+    found = differences(ones, others)
+    for process, pair in found:
+        print_difference(options, process, pair)
     return NOTHING if found else FOUND

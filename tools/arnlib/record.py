@@ -4,8 +4,9 @@ import fcntl
 import os
 import shutil
 import sys
+from typing import NamedTuple
 
-from arnlib import endings, launcher, logs, programs, recording, symbols, texts
+from arnlib import endings, launcher, logs, programs, recording, symbols, texts, trying
 from arnlib.faults import FAILED, Fault, say
 from arnlib.program import find_program
 
@@ -14,8 +15,8 @@ PROGRAM_WORDS = True
 MOST_ROUND, MOST_SEED = 1_000_000, 2 ** 64 - 1
 DESCRIPTION = """Runs a program of Arnold's machine on this input, and keeps all of it in a log: what came in, what was written, and
 in which order processes ran. PROGRAM is an ELF file, an image, or sources in C. What the program writes to its console, which its
-descriptors 1 and 2 both are, is copied to standard output. On a terminal a line is taken whenever a process waits for one, and
-Ctrl-D ends the input.
+descriptors 1 and 2 both are, is copied to standard output. On a terminal a line is taken whenever a process waits for
+one, and Ctrl-D ends the input.
 
 The last line on standard error says how it ended. The status is that of the first process, or one of these:
   124  it waits for what never comes, or --most is reached
@@ -28,8 +29,13 @@ EXAMPLE = """The program's words stand behind `--`. `--json` makes the last line
 signal, waits, most, interrupted, closed, failed), status, said, and where there is a log: program, instructions, events, log; of a
 fault also moment, reason, where; of a signal also signal.
 
-example:
-  echo 'ann opensesame' | arn record examples/leak/hello.img"""
+`--try N` records under --random with the seeds S to S + N - 1, groups the recordings by what was written to the console and the
+status, and prints of each group how many they are and the first seed, whose log it keeps as NAME.seedS.log. Its status is 0 where all
+are one group, and 1 where there are several. `arn diff LOG LOG` then finds the first call at which two of them differ.
+
+examples:
+  echo 'ann opensesame' | arn record examples/leak/hello.img
+  echo 'ann opensesame' | arn record --try 5 examples/leak/hello.img"""
 
 
 def add_words(parser):
@@ -37,6 +43,8 @@ def add_words(parser):
     parser.add_argument("--file", action="append", default=[], metavar="NAME=PATH", help="the machine has this file")
     parser.add_argument("--env", action="append", default=[], metavar="NAME=VALUE", help="a variable of the environment")
     add_chooser(parser)
+    parser.add_argument("--try", dest="tries", metavar="N", help="records N times in random orders, and tells what differs")
+    parser.add_argument("--by-process", action="store_true", help="with --try: compares what each process wrote, in whatever order")
     parser.add_argument("programs", nargs="+", metavar="PROGRAM", help="an ELF file, an image, or sources in C")
 
 
@@ -132,30 +140,40 @@ def paths_of(log):
     return log, symbols.folder_of(log)
 
 
+def refuse_there(log):
+    """Refuses the name of a log that is there already, or whose ELF files are."""
+    for path in paths_of(log):
+        if os.path.lexists(path):
+            raise Fault(f"{texts.safe(path)}: it is there already")
+
+
 def new_log(named, name):
     """The path of a log that isn't there, which is made, empty, for its owner alone."""
     number = 0
     while True:
         log = named or (f"{name}.log" if number == 0 else f"{name}.{number}.log")
-        there = next((path for path in paths_of(log) if os.path.lexists(path)), None)
-        if there is None:
-            try:
-                os.close(os.open(log, os.O_CREAT | os.O_EXCL | os.O_WRONLY, 0o600))
-                return log
-            except FileExistsError:
-                there = log
-            except OSError as error:
-                raise Fault(f"{texts.safe(log)}: {error.strerror}") from None
-        if named:
-            raise Fault(f"{texts.safe(there)}: it is there already")
+        try:
+            refuse_there(log)
+            os.close(os.open(log, os.O_CREAT | os.O_EXCL | os.O_WRONLY, 0o600))
+            return log
+        except (Fault, FileExistsError):
+            if named:
+                raise
+        except OSError as error:
+            raise Fault(f"{texts.safe(log)}: {error.strerror}") from None
         number += 1
 
 
 def drop_if_empty(log):
     """Takes a log away in which nothing was recorded."""
     if os.path.getsize(log) == 0:
-        os.unlink(log)
-        shutil.rmtree(symbols.folder_of(log), ignore_errors=True)
+        drop(log)
+
+
+def drop(log):
+    """Takes a log away, and its ELF files."""
+    os.unlink(log)
+    shutil.rmtree(symbols.folder_of(log), ignore_errors=True)
 
 
 @contextlib.contextmanager
@@ -173,6 +191,17 @@ def locked(log):
             os.unlink(path)
 
 
+class Prepared(NamedTuple):
+    """What a recording is made of: the program `arnold` and its words, the session's lines up to the boot, the program's name, its ELF
+    files, and the descriptor of a terminal that is typed on, or None."""
+    arnold: str
+    words: list
+    lines: list
+    name: str
+    kept: list
+    typed: int | None
+
+
 def session_lines(options, program, files, given):
     """The lines of the session up to the boot. `given` is the input, or None where it is typed."""
     files = [launcher.GivenFile(program.name, program.image), *files]
@@ -183,35 +212,48 @@ def session_lines(options, program, files, given):
     return launcher.lines(program.name, files, block, given is not None)
 
 
+def prepared(options):
+    """All that the words ask for, before a log is made."""
+    words, arnold = chooser(options), find_program(options.arnold)
+    check_variables(options.env)
+    program = programs.read_program(options.programs)
+    files, kept = named_files(options.file, program)
+    if program.elf is not None:
+        kept.insert(0, (program.name, program.image, program.elf))
+    typed = terminal()
+    lines = session_lines(options, program, files, None if typed is not None else read_input())
+    return Prepared(arnold, words, lines, program.name, kept, typed)
+
+
+def made_as(wanted, options, log, words=(), collected=None):
+    """Makes a recording in a log that is there and empty, and gives how it ended."""
+    try:
+        if wanted.kept:
+            symbols.keep(log, wanted.kept)
+        with locked(log):
+            return recording.conduct(wanted.arnold, log, [*wanted.words, *words], options, wanted.lines, wanted.name, wanted.typed,
+                                     collected)
+    finally:
+        drop_if_empty(log)
+
+
+def made(options):
+    """Makes the recording that the words ask for, and gives how it ended."""
+    if options.log is not None:
+        refuse_there(options.log)
+    wanted = prepared(options)
+    return made_as(wanted, options, new_log(options.log, wanted.name))
+
+
 def run(options):
     try:
+        if options.tries is not None:
+            return trying.run(options)
+        if options.by_process:
+            raise Fault("--by-process goes with --try")
         return endings.report(made(options), options.json)
     except Fault as fault:
         if not options.json:
             raise
         status = FAILED if fault.status is None else fault.status
         return endings.report(endings.failed(str(fault))._replace(status=status), True)
-
-
-def made(options):
-    """Makes the recording that the words ask for, and gives how it ended."""
-    words, arnold = chooser(options), find_program(options.arnold)
-    check_variables(options.env)
-    if options.log is not None:
-        for path in paths_of(options.log):
-            if os.path.lexists(path):
-                raise Fault(f"{texts.safe(path)}: it is there already")
-    program = programs.read_program(options.programs)
-    files, kept = named_files(options.file, program)
-    typed = terminal()
-    lines = session_lines(options, program, files, None if typed is not None else read_input())
-    log = new_log(options.log, program.name)
-    try:
-        if program.elf is not None:
-            kept.insert(0, (program.name, program.image, program.elf))
-        if kept:
-            symbols.keep(log, kept)
-        with locked(log):
-            return recording.conduct(arnold, log, words, options, lines, program.name, typed)
-    finally:
-        drop_if_empty(log)

@@ -62,9 +62,11 @@ class Progress:
 
 
 class Recording:
-    """The program while it records. `most` is how many instructions it runs at most."""
+    """The program while it records. `most` is how many instructions it runs at most. `collected` is a list that gets what is written
+    to the console; it is copied to standard output where that is None."""
 
-    def __init__(self, program, log, words, most):
+    def __init__(self, program, log, words, most, collected=None):
+        self.collected = collected
         self.program, self.log, self.most, self.ran, self.is_closed = program, log, most, 0, False
         self.progress = Progress()
         self.dialogue = Dialogue(program, log, words)
@@ -90,6 +92,9 @@ class Recording:
 
     def copy(self, data):
         """Copies what was written to the console."""
+        if self.collected is not None:
+            self.collected.append(data)
+            return
         if self.is_closed or sys.stdout is None:
             self.is_closed = True
             return
@@ -140,7 +145,8 @@ class Recording:
             if end == "done" or stop is not None:
                 return stop
             if end == "budget" and self.most is not None and self.ran >= self.most:
-                return Ending("most", endings.WAITS, f"{texts.plural(self.ran, 'instruction')} have run; `arn resume` runs it on")
+                said = f"{texts.plural(self.ran, 'instruction')} have run; `arn resume` runs it on"
+                return Ending("most", endings.WAITS, said)
             if end == "stalled":
                 takes_lines = terminal is not None and not (is_typed and ran == 0) and endings.wants_line(self)
                 if not (takes_lines and self.take_line(terminal)):
@@ -164,10 +170,10 @@ class Recording:
         return True
 
 
-def conduct(arnold, log, words, options, lines, name, terminal):
+def conduct(arnold, log, words, options, lines, name, terminal, collected=None):
     """Makes a recording, or goes on with one where `lines` is None. Gives how it ended; nothing that goes wrong is raised."""
     try:
-        with Recording(arnold, log, words, options.most) as recording:
+        with Recording(arnold, log, words, options.most, collected) as recording:
             try:
                 if lines is not None:
                     recording.give(lines)
