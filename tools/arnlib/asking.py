@@ -33,6 +33,11 @@ def as_bytes(pieces):
     return [{"event": piece.event, "from": piece.first, "to": piece.first + piece.length - 1} for piece in pieces]
 
 
+def in_event(piece):
+    """Bytes of an event as a question names them: E:FROM-TO."""
+    return f"{piece.event}:{texts.span(piece.first, piece.first + piece.length - 1)}"
+
+
 def as_place(stretch, first, last):
     """Bytes of an input or of a sink for a JSON object: its word, the first and the last, the line, and which bytes of events they are."""
     made = {"name": stretch.name, "from": first, "to": last, "bytes": as_bytes(stretch.ranges(first, last - first + 1))}

@@ -37,6 +37,8 @@ def arguments(event, registers):
         return f"{path_of(event)}, {registers[12] if registers else '?'}"
     if what in ("exec", "unlink"):
         return path_of(event)
+    if what == "wait" and event.data:
+        return f"status {event.data[0]}"
     count = COUNTS.get(what, 0)
     if not registers:
         return ", ".join("?" * count)

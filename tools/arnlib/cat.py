@@ -1,12 +1,12 @@
 """arn cat: a file as it was at a moment."""
 import sys
 
-from arnlib import asking, targets, texts
+from arnlib import asking, files, targets, texts
 from arnlib.faults import FOUND, Fault
 
-DESCRIPTION = "Prints the bytes of a file as they were at a moment. Without a moment: at the end."
+DESCRIPTION = "Prints the bytes of a file as they were at a moment, when so many instructions had run. Without a moment: at the end."
 EXAMPLE = """example:
-  arn cat leak.log NAME --at 100"""
+  arn cat two.log notes --at 9000"""
 
 
 def add_words(parser):
@@ -16,12 +16,10 @@ def add_words(parser):
 
 
 def run(options):
-    if not options.name or not all("!" <= letter <= "~" for letter in options.name):
+    if not targets.is_name(options.name):
         raise Fault(f"{texts.safe(options.name)!r} is no name of a file")
     with asking.opened(options) as log:
-        moment = log.history().total if options.at is None else options.at
-        *_, words = log.ask(f"show {moment} file {options.name}")
-        if words[0] != "file":
-            raise Fault(f"no file had the name {options.name} at moment {moment}")
-        sys.stdout.buffer.write(texts.bytes_of(words[1]))
+        data = files.content(log, files.moment_of(log.history(), options), options.name)
+    sys.stdout.buffer.write(data)
+    sys.stdout.buffer.flush()
     return FOUND

@@ -1,10 +1,11 @@
 """arn files: the files at a moment."""
-from arnlib import asking, places, targets, texts
-from arnlib.faults import FOUND
+from arnlib import asking, past, places, targets, texts
+from arnlib.faults import FOUND, NOTHING, Fault
 
-DESCRIPTION = "Lists the files that had a name at a moment, with their lengths. Without a moment: at the end."
+DESCRIPTION = """Lists the files that had a name at a moment, when so many instructions had run, with their lengths. Without a moment: at the
+end. The status is 1 where there is none."""
 EXAMPLE = """example:
-  arn files leak.log --at 100"""
+  arn files two.log --at 9000"""
 
 
 def add_words(parser):
@@ -16,7 +17,7 @@ def names_at(history, moment):
     """The names that stood for files at a moment, those of `arn` left out."""
     names = set()
     for event in history.events:
-        if moment is not None and event.moment > moment:
+        if event.moment > moment:
             break
         if event.kind == "file" or event.what == "open" and event.did == "name":
             names.add(event.name)
@@ -25,17 +26,28 @@ def names_at(history, moment):
     return sorted(name for name in names if not places.is_own(name))
 
 
+def content(log, moment, name):
+    """The bytes of a file at a moment."""
+    missing = f"no file had the name {texts.safe(name)} at moment {moment}"
+    return texts.bytes_of(past.answer(log, f"show {moment} file {name}", "file", missing)[0])
+
+
+def moment_of(history, options):
+    """The moment that is asked about."""
+    if options.at is not None and options.at > history.total:
+        raise Fault(f"moment {options.at} isn't in the history: the last one is {history.total}")
+    return history.total if options.at is None else options.at
+
+
 def run(options):
     with asking.opened(options) as log:
         history = log.history()
-        moment = history.total if options.at is None else options.at
-        for name in names_at(history, options.at):
-            *_, words = log.ask(f"show {moment} file {name.decode()}")
-            if words[0] != "file":
-                continue
-            length = len(texts.bytes_of(words[1]))
+        moment = moment_of(history, options)
+        names = names_at(history, moment)
+        for name in names:
+            length = len(content(log, moment, name.decode("ascii")))
             if options.json:
-                asking.print_object(name=name.decode(), bytes=length)
+                asking.print_object(name=name.decode("ascii"), bytes=length)
             else:
                 print(f"{length:>9,} {texts.shown(name)}")
-    return FOUND
+    return FOUND if names else NOTHING

@@ -1,11 +1,25 @@
 """arn last: what last changed a byte of a process's memory."""
-from arnlib import asking, show, symbols, targets, texts
+from typing import NamedTuple
+
+from arnlib import asking, past, show, symbols, targets
 from arnlib.faults import FOUND, NOTHING, Fault
 
-DESCRIPTION = """Finds the moment at which a byte of a process's memory last changed, and what changed it. It looks at few moments, by
-halving: an earlier or a later write of the same value may stand between."""
-EXAMPLE = """example:
-  arn last leak.log 1 0x102d8"""
+DESCRIPTION = """Finds the moment at which a byte or a global variable of a process last changed, and what changed it: the instruction, the calls
+above, the event. It looks at few moments, by halving: an earlier or a later write of the same value may stand between. The status is 1
+where no change is seen."""
+EXAMPLE = """examples:
+  arn last two.log 1 total                     what last changed the variable `total` of process 1
+  arn last two.log 1 0x11d98 --at 9000         what changed the byte at this address last before moment 9000"""
+
+
+class Change(NamedTuple):
+    """A change: the moment after it, the bytes before and after, where it was made, and the event that made it, if one did."""
+    moment: int
+    before: bytes
+    after: bytes
+    place: int
+    where: str
+    event: object
 
 
 def add_words(parser):
@@ -28,18 +42,14 @@ def life(history, pid):
     return first, last
 
 
-def address_of(word, elf):
-    """The address that a word says, and how many bytes from it on are asked for: those of a variable, or one."""
-    if word[:1].isdigit():
-        return targets.number(word), 1
-    known = elf.variables() if elf else {}
-    if word not in known:
-        raise Fault(f"there is no variable {texts.safe(word)}" + ("" if elf else ": the program's ELF file isn't kept"))
-    return known[word]
+def begun(programs, pid, history, first, last):
+    """The first moment at which a process ran the program that it ran last."""
+    return max([first, *(history.events[number].moment for number, *_ in programs.begun.get(pid, ()) if history.events[number].moment <= last
+                         and history.events[number].process == pid)])
 
 
 def last_change(look, first, last):
-    """The last moment seen at which the bytes were others, and the next one seen; or None where none was seen."""
+    """The last moment seen at which the bytes were others, with the next one as they are; or None where none was seen."""
     now, step, same = look(last), 1, last
     while same > first and look(before := max(last - step, first)) == now:
         same, step = before, 2 * step
@@ -55,34 +65,65 @@ def last_change(look, first, last):
     return differs
 
 
+def kept(look):
+    """The same function, which looks at each moment once."""
+    seen = {}
+
+    def once(moment):
+        if moment not in seen:
+            seen[moment] = look(moment)
+        return seen[moment]
+    return once
+
+
+def change_at(log, history, programs, pid, moment, look):
+    """The change that the instruction behind a moment made."""
+    place, _ = past.Past(log, moment, pid).registers
+    event = next((event for event in history.events if event.moment == moment + 1 and event.process == pid), None)
+    where = programs.calls(log, pid, asking.event_after(history, moment), moment, place)
+    return Change(moment + 1, look(moment), look(moment + 1), place, where, event)
+
+
+def differing(change):
+    """Which bytes changed: the place of the first, and their values before and after."""
+    places = [at for at, pair in enumerate(zip(change.before, change.after)) if pair[0] != pair[1]]
+    first, last = places[0], places[-1] + 1
+    return first, change.before[first:last], change.after[first:last]
+
+
+def print_change(options, change):
+    """Prints a change. Of many bytes those that changed are told."""
+    event = change.event
+    if options.json:
+        asking.print_object(moment=change.moment, before=change.before.hex(), after=change.after.hex(), pc=change.place, where=change.where,
+                            event=event.number if event else None)
+        return
+    first, before, after = differing(change) if len(change.before) > show.MOST_SHOWN else (None, change.before, change.after)
+    of = "" if first is None else f"from byte {first} on, "
+    said = f"moment {change.moment}: {of}{show.value(before)} became {show.value(after)}, {show.stands(change.place, change.where)}"
+    print(said + (f", event {event.number} {event.what}" if event else ""))
+    print("(found by halving: an earlier or later write of the same value may stand between)")
+
+
 def run(options):
     with asking.opened(options) as log:
         history = log.history()
         programs = symbols.Programs(options.log, history)
         first, last = life(history, options.pid)
-        if options.at is not None:
-            last = min(last, options.at)
+        last = last if options.at is None else min(last, options.at)
         if last < first:
             raise Fault(f"process {options.pid} didn't live at moment {options.at}: it began at moment {first}")
-        address, length = address_of(options.place, programs.elf(options.pid, show.event_before(history, last)))
-        seen = {}
-
-        def look(moment):
-            if moment not in seen:
-                seen[moment] = show.memory(log, moment, options.pid, address, length)
-            return seen[moment]
+        if options.place[:1].isdigit():
+            address, length = targets.number(options.place), 1
+        else:
+            address, length = asking.variable(programs, history, options.pid, last, options.place)
+        first = begun(programs, options.pid, history, first, last)
+        look = kept(lambda moment: past.Past(log, moment, options.pid).memory(address, min(length, past.MOST)))
+        asking.say_how_long(2 * last)
         differs = last_change(look, first, last)
         if differs is None:
-            print(f"no change seen from moment {first} to moment {last}: {show.value(look(last))}")
+            if not options.json:
+                print(f"no change seen from moment {first} to moment {last}: {show.value(look(last))}")
             return NOTHING
-        place, _ = show.registers(log, differs, options.pid)
-        event = next((event for event in history.events if event.moment == differs + 1 and event.process == options.pid), None)
-        where = programs.where(options.pid, show.event_before(history, differs), place)
-        before, after = look(differs), look(differs + 1)
-    if options.json:
-        asking.print_object(moment=differs + 1, before=before.hex(), after=after.hex(), pc=place, where=where,
-                            event=event.number if event else None)
-    else:
-        said = f"moment {differs + 1}: {show.value(before)} became {show.value(after)}, {where}"
-        print(said + (f", event {event.number} {event.what}" if event else ""))
+        print_change(options, change_at(log, history, programs, options.pid, differs, look))
     return FOUND

@@ -61,10 +61,10 @@ def run(options):
         if not options.open:
             check_ended(log, history)
         check_sink(history, options.sink)
-        found = reach.ranges(history, options.source, options.text, UNASKED)
-        asking.say_how_long(history.total * len(found))
-        for one in found:
-            for flow in reach.flows(log, history, options.linkage, one):
+        found = reach.wanted_by(history, options.source, options.text, UNASKED)
+        asking.say_how_long(history.total * sum(len(wanted.asked()) for wanted in found))
+        for wanted in found:
+            for flow in reach.flows(log, history, options.linkage, wanted):
                 if is_to(flow, options.sink):
                     reach.print_flow(options, flow)
                     is_leak = True

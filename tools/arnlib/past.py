@@ -4,6 +4,8 @@ from arnlib.faults import Fault
 
 # The window of each process (docs/MACHINE.md), and how much of it is asked for at once.
 WINDOW, WINDOW_END, PIECE = 0x10000, 0x50000, 0x1000
+# How many bytes a line asks for at most.
+MOST = 65_536
 STACK_POINTER, RETURN_ADDRESS = 2, 1
 
 

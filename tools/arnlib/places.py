@@ -69,36 +69,37 @@ class Stretch:
 
 
 class Content:
-    """A file's bytes as its writes left them, each with its place; None where a byte wasn't written but given."""
+    """A file's bytes as its writes left them. `written` are the stretches that were written: begin, end, event, first byte of it."""
 
     def __init__(self, given=b""):
-        self.data, self.places = bytearray(given), [None] * len(given)
+        self.data, self.written = bytearray(given), []
 
     def give(self, at, data):
-        """Puts bytes that weren't written by a program."""
-        self.put(None, at, data)
-        self.places[at:at + len(data)] = [None] * len(data)
+        """Puts bytes that weren't written by the program."""
+        end = at + len(data)
+        self.data += bytes(max(end - len(self.data), 0))
+        self.data[at:end] = data
+        first = bisect.bisect_right(self.written, at, key=lambda one: one[1])
+        last = bisect.bisect_left(self.written, end, lo=first, key=lambda one: one[0])
+        kept = []
+        for begin, over, event, place in self.written[first:last]:
+            if begin < at:
+                kept.append((begin, at, event, place))
+            if end < over:
+                kept.append((end, over, event, place + end - begin))
+        self.written[first:last] = kept
 
     def put(self, event, at, data):
         """Puts the bytes of a write."""
-        end = at + len(data)
-        if end > len(self.data):
-            missing = end - len(self.data)
-            self.data += bytes(missing)
-            self.places += [None] * missing
-        self.data[at:end] = data
-        self.places[at:end] = [(event, place) for place in range(len(data))]
+        if data:
+            self.give(at, data)
+            bisect.insort(self.written, (at, at + len(data), event, 0))
 
     def stretch(self, name):
         """Those bytes that were written."""
-        made, begin = Stretch(name), 0
-        while begin < len(self.data):
-            end, place = begin + 1, self.places[begin]
-            while place and end < len(self.data) and self.places[end] == (place[0], place[1] + end - begin):
-                end += 1
-            if place:
-                made.add(place[0], self.data[begin:end], place[1])
-            begin = end
+        made = Stretch(name)
+        for begin, end, event, first in self.written:
+            made.add(event, self.data[begin:end], first)
         return made
 
 
@@ -217,6 +218,7 @@ class Inputs:
                     self.add(word, event.number, text, at)
             elif event.kind == "file":
                 self.add_file(event, whole.get(event.name, event.name))
+        self.add_launched(history)
 
     def add(self, word, event, data, first=0):
         """Adds bytes of an event to the stretch of a word."""
@@ -233,6 +235,15 @@ class Inputs:
             word = "file:" + texts.shown(name)
             is_first = word not in self.stretches
             self.add("program:" + texts.shown(name) if is_first and is_program(event.data) else word, event.number, event.data)
+
+    def add_launched(self, history):
+        """Says of the launcher's writes which bytes of an input they put together."""
+        names = file_names(history)
+        for event in history.events[:launch(history) + 1]:
+            name = names.get(event.file) if event.did == "put" else None
+            stretch = name and self.stretches.get("input" if name == INPUT else "file:" + texts.shown(name))
+            if stretch:
+                self.of[event.number] = [(0, event.length, stretch, event.place)]
 
     def find(self, event, at):
         """The stretch that a byte of an event is in, and how far its place there is from that in the event; None where it is in none."""

@@ -10,15 +10,38 @@ decides by a byte isn't followed. The status is 1 where they reached nothing."""
 EXAMPLE = """example:
   arn reach two.log secret          which outputs the bytes of `secret` in the input reached"""
 
+# Ranges of one event that are nearer to each other than this are asked for by one line.
+NEAR = 4096
+
 
 class Flow(NamedTuple):
-    """Bytes of an input that reached bytes of an output: of each the stretch, the first and the last byte there."""
+    """Bytes of an output that bytes of an input reached: of both the stretch; the first and the last byte; and spans of the input."""
     source: places.Stretch
-    source_first: int
-    source_last: int
+    spans: list
     sink: places.Stretch
     first: int
     last: int
+
+
+class Wanted(NamedTuple):
+    """Bytes of an input that are asked about: the stretch, and the spans in it."""
+    stretch: places.Stretch
+    spans: list
+
+    def asked(self):
+        """What lines ask for: of each the event, the first byte, how many, and how far these are from their places in the stretch."""
+        made = []
+        for first, last in self.spans:
+            at = first
+            for piece in self.stretch.ranges(first, last - first + 1):
+                offset, end = at - piece.first, piece.first + piece.length
+                if made and made[-1][0] == piece.event and piece.first < made[-1][2] + NEAR and end - made[-1][1] <= sources.MOST_RANGE:
+                    made[-1][2] = max(made[-1][2], end)
+                else:
+                    made += [[piece.event, piece.first + some, piece.first + some + count, offset]
+                             for some, count in sources.pieces(piece.length)]
+                at += piece.length
+        return [(event, first, end - first, offset) for event, first, end, offset in made]
 
 
 def add_words(parser):
@@ -28,8 +51,8 @@ def add_words(parser):
     parser.add_argument("--linkage", choices=sources.LINKAGES, default="copy", help="copy where it isn't given")
 
 
-def ranges(history, word, is_text, nothing):
-    """The ranges of inputs that a word names: the stretch, the first byte and how many. `nothing` is the status where there are none."""
+def wanted_by(history, word, is_text, nothing):
+    """The bytes of inputs that a word names, by their stretches. `nothing` is the status where there are none."""
     inputs = places.Inputs(history)
     target = None if is_text else targets.in_words(history, word)
     if target is not None:
@@ -37,60 +60,64 @@ def ranges(history, word, is_text, nothing):
         ends = [inputs.find(piece.event, at) for at in (piece.first, piece.first + piece.length - 1)]
         if None in ends or ends[0][0] is not ends[1][0]:
             raise Fault(f"{target.called(0, target.length - 1)}: these bytes didn't come in", UNASKED)
-        return [(ends[0][0], piece.first + ends[0][1], piece.length)]
-    wanted = targets.text_bytes(word)
-    found = targets.matches(inputs.given(), wanted)
+        stretch, offset = ends[0]
+        return [Wanted(stretch, [(piece.first + offset, piece.first + offset + piece.length - 1)])]
+    text = targets.text_bytes(word)
+    found = {}
+    for stretch, at in targets.matches(inputs.given(), text):
+        found.setdefault(stretch.name, (stretch, set()))[1].update(range(at, at + len(text)))
     if not found:
-        raise Fault(f"nothing that came in has {texts.quoted(wanted)}", nothing)
-    return [(stretch, at, len(wanted)) for stretch, at in found]
+        raise Fault(f"nothing that came in has {texts.quoted(text)}", nothing)
+    return [Wanted(stretch, sources.spans(numbers)) for stretch, numbers in found.values()]
 
 
-def reached_by(log, linkage, stretch, at, length):
-    """The output bytes that a range of an input reaches: of each, an event and a byte of it, the bytes of the input."""
-    reached, begin = {}, at
-    for piece in stretch.ranges(at, length):
-        for first, count in sources.pieces(piece.length):
-            answer = log.ask(f"forth {linkage} {piece.event} {piece.first + first} {count}")
-            for byte, pairs in sources.pairs_in(answer, "forth").items():
+def reached_by(log, linkage, wanted):
+    """The output bytes that bytes of an input reach: of each, an event and a byte of it, the bytes of the input."""
+    reached, numbers = {}, {at for first, last in wanted.spans for at in range(first, last + 1)}
+    for event, first, count, offset in wanted.asked():
+        for byte, pairs in sources.pairs_in(log.ask(f"forth {linkage} {event} {first} {count}"), "forth").items():
+            if first + byte + offset in numbers:
                 for place in pairs:
-                    reached.setdefault(place, []).append(begin + first + byte)
-        begin += piece.length
+                    reached.setdefault(place, []).append(first + byte + offset)
     return reached
 
 
-def flows(log, history, linkage, one):
-    """The flows of a range of an input, in the order of sinks and of their bytes."""
-    stretch, at, length = one
-    reached = reached_by(log, linkage, stretch, at, length)
+def flows(log, history, linkage, wanted):
+    """The flows of bytes of an input, in the order of sinks and of their bytes."""
+    reached = reached_by(log, linkage, wanted)
     for sink in places.writes(history).values():
         came = {place: reached[event, first + place - begin]
                 for begin, (event, first, count) in zip(sink.begins, sink.pieces)
                 for place in range(begin, begin + count) if (event, first + place - begin) in reached}
         for first, last in sources.spans(came):
-            given = [byte for place in range(first, last + 1) for byte in came[place]]
-            yield Flow(stretch, min(given), max(given), sink, first, last)
+            given = {byte for place in range(first, last + 1) for byte in came[place]}
+            yield Flow(wanted.stretch, sources.spans(given), sink, first, last)
 
 
 def print_flow(options, flow):
     """Prints a flow."""
     pieces = flow.sink.ranges(flow.first, flow.last - flow.first + 1)
     if options.json:
-        asking.print_object(source=asking.as_place(flow.source, flow.source_first, flow.source_last),
+        asking.print_object(sources=[asking.as_place(flow.source, first, last) for first, last in flow.spans],
                             sink=asking.as_place(flow.sink, flow.first, flow.last), linkage=options.linkage)
         return
     of = targets.of_pieces(pieces, None).called(0, flow.last - flow.first)
-    print(f"{sources.range_told(flow.source, flow.source_first, flow.source_last)} -> {places.called(flow.sink.name)}, {of} "
-          f"{sources.in_line(flow.sink.data, flow.first, flow.last)}")
+    line = sources.in_line(flow.sink.data, flow.first, flow.last)
+    print(f"{sources.range_told(flow.source, *flow.spans[0])} -> {places.called(flow.sink.name)}, {of} {line}")
+    for first, last in flow.spans[1:sources.MOST_RANGES]:
+        print(f"    and {sources.range_told(flow.source, first, last)}")
+    if len(flow.spans) > sources.MOST_RANGES:
+        print(f"    and {len(flow.spans) - sources.MOST_RANGES:,} more ranges (--json: all)")
 
 
 def run(options):
     is_found = False
     with asking.opened(options) as log:
         history = log.history()
-        found = ranges(history, options.target, options.text, NOTHING)
-        asking.say_how_long(history.total * len(found))
-        for one in found:
-            for flow in flows(log, history, options.linkage, one):
+        found = wanted_by(history, options.target, options.text, NOTHING)
+        asking.say_how_long(history.total * sum(len(wanted.asked()) for wanted in found))
+        for wanted in found:
+            for flow in flows(log, history, options.linkage, wanted):
                 print_flow(options, flow)
                 is_found = True
     if not is_found and not options.json:

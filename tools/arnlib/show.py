@@ -1,43 +1,25 @@
 """arn show: a process at a moment."""
-from arnlib import asking, symbols, targets, texts
+from arnlib import asking, past, symbols, targets, texts
 from arnlib.faults import FOUND, Fault
 
-DESCRIPTION = """Shows a process as it was at a moment: where it stands, its registers, its global variables by name, and memory that is
-asked for. Without a process: those that lived then, and where each stood."""
-EXAMPLE = """example:
-  arn show leak.log 100 1 --mem 0x10000+32"""
-BYTES_A_ROW = 16
-# How many bytes of a variable are shown.
-MOST_SHOWN = 16
+DESCRIPTION = """Shows a process as it was at a moment, when so many instructions had run: where it stood and the calls above, its registers,
+the global variables of its own sources; or memory or a variable that is asked for. Without a process: those that lived then, and where each stood."""
+EXAMPLE = """examples:
+  arn show two.log 9000                         which processes lived, and where each stood
+  arn show two.log 9000 1                       all of process 1
+  arn show two.log 9000 1 --mem 0x10000+32      bytes of its memory
+  arn show two.log 9000 1 --var total           its variable `total`"""
+BYTES_A_ROW, REGISTERS_A_ROW = 16, 4
+# Where all variables are shown: of how many bytes one is at most, and how many bytes of it are shown.
+LONGEST, MOST_SHOWN = 4096, 16
 
 
 def add_words(parser):
     asking.add_log(parser)
-    parser.add_argument("moment", metavar="MOMENT", type=targets.number)
+    parser.add_argument("moment", metavar="MOMENT", type=targets.number, help="how many instructions had run in all")
     parser.add_argument("pid", metavar="PID", nargs="?", type=targets.number)
-    parser.add_argument("--mem", metavar="ADDRESS+LEN", help="these bytes of its memory")
+    parser.add_argument("--mem", metavar="ADDRESS+LEN", help="these bytes of its memory alone")
     parser.add_argument("--var", metavar="NAME", help="this global variable alone")
-
-
-def answer(log, line, word, missing):
-    """The words of an answer of one line behind its first."""
-    *_, words = log.ask(line)
-    if words[0] != word:
-        raise Fault(missing if words == ["no", "point"] else " ".join(words))
-    return words[1:]
-
-
-def registers(log, moment, pid):
-    """Where a process stands, and its registers."""
-    words = answer(log, f"show {moment} regs {pid}", "regs", f"process {pid} didn't live at moment {moment}")
-    return int(words[0], 16), [0] + [int(word, 16) for word in words[1:]]
-
-
-def memory(log, moment, pid, address, length):
-    """Bytes of a process's memory."""
-    words = answer(log, f"show {moment} mem {pid} {address:#x} {length}", "mem",
-                   f"process {pid} has no such memory at moment {moment}")
-    return texts.bytes_of(words[0])
 
 
 def rows(data, address):
@@ -49,11 +31,6 @@ def rows(data, address):
         yield f"{address + at:08x}: {pairs:39}  {letters}"
 
 
-def event_before(history, moment):
-    """The number of the first event that hasn't happened at a moment."""
-    return next((event.number for event in history.events if event.moment > moment), len(history.events))
-
-
 def value(data):
     """A variable's bytes as a number where they are few, else as text."""
     if len(data) in (1, 2, 4, 8):
@@ -62,69 +39,83 @@ def value(data):
     return texts.quoted(data[:MOST_SHOWN]) + (".." if len(data) > MOST_SHOWN else "")
 
 
-def variables(log, options, elf):
-    """The global variables with their bytes."""
-    known = elf.variables() if elf else {}
-    if options.var is not None:
-        if options.var not in known:
-            raise Fault(f"there is no variable {texts.safe(options.var)}" + ("" if elf else ": the program's ELF file isn't kept"))
-        known = {options.var: known[options.var]}
-    for name, (address, length) in sorted(known.items(), key=lambda one: one[1]):
-        if not name.startswith("_") and 0 < length <= 4096:
-            yield name, address, memory(log, options.moment, options.pid, address, length)
+def shown_memory(seen, address, length):
+    """Bytes of memory that are asked for, in pieces of what a line may ask for."""
+    return b"".join(seen.memory(address + at, min(length - at, past.MOST)) for at in range(0, length, past.MOST))
+
+
+def variables(seen, elf):
+    """The global variables with their addresses and bytes. What isn't in the window, as a linker's symbol may be, is passed over."""
+    for name, (address, length) in sorted(elf.own_variables().items() if elf else (), key=lambda one: one[1]):
+        if not name.startswith("_") and 0 < length <= LONGEST and (data := seen.in_window(address, length)) is not None:
+            yield name, address, data
+
+
+def stands(place, where):
+    """Where a process stands, in words."""
+    return f"at {place:#x}" + ("" if where.startswith("at ") else f", {where}")
 
 
 def show_all(log, options, programs, event):
     """Prints the processes that lived, and where each stood."""
     for words in list(log.ask(f"show {options.moment} procs")):
         if words[0] == "proc":
-            place, _ = registers(log, options.moment, words[1])
-            where = programs.where(int(words[1]), event, place)
+            process = int(words[1])
+            place, _ = past.Past(log, options.moment, process).registers
+            where = programs.calls(log, process, event, options.moment, place)
             if options.json:
-                asking.print_object(process=int(words[1]), group=int(words[3]), pc=place, where=where)
+                asking.print_object(process=process, group=int(words[3]), pc=place, where=where)
             else:
-                print(f"process {words[1]}, group {words[3]}, at {place:#x}" + ("" if where.startswith("at ") else f" {where}"))
+                print(f"process {process}, group {words[3]}, {stands(place, where)}")
         elif words[0] != "procs":
             raise Fault(f"moment {options.moment} isn't in the history")
 
 
 def show_registers(found):
-    """Prints registers, four a line."""
-    for first in range(0, 32, 4):
-        print("  ".join(f"{name:4} {found[first + k]:016x}" for k, name in enumerate(targets.NAMES[first:first + 4])))
+    """Prints registers, some a line."""
+    for first in range(0, len(found), REGISTERS_A_ROW):
+        print("  ".join(f"{name:4} {found[first + k]:016x}" for k, name in enumerate(targets.NAMES[first:first + REGISTERS_A_ROW])))
 
 
 def show_one(log, options, programs, event):
     """Prints all of one process."""
-    place, found = registers(log, options.moment, options.pid)
-    where = programs.where(options.pid, event, place)
-    named = list(variables(log, options, programs.elf(options.pid, event)))
+    seen = past.Past(log, options.moment, options.pid)
+    place, found = seen.registers
+    where = programs.calls(log, options.pid, event, options.moment, place)
+    named = list(variables(seen, programs.elf(options.pid, event)))
     if options.json:
         asking.print_object(process=options.pid, moment=options.moment, pc=place, where=where, registers=found,
                             variables={name: {"address": address, **texts.as_json(data)} for name, address, data in named})
         return
-    if options.var is None:
-        print(f"process {options.pid} at moment {options.moment}, at {place:#x}" + ("" if where.startswith("at ") else f" {where}"))
-        show_registers(found)
+    print(f"process {options.pid} at moment {options.moment}, {stands(place, where)}")
+    show_registers(found)
     for name, address, data in named:
         print(f"{texts.safe(name)} at {address:#x} = {value(data)}")
 
 
+def show_bytes(log, options, address, length):
+    """Prints bytes of a process's memory, or a variable."""
+    data = shown_memory(past.Past(log, options.moment, options.pid), address, length)
+    if options.json:
+        asking.print_object(address=address, **texts.as_json(data))
+    elif options.var is not None and len(data) <= MOST_SHOWN:
+        print(f"{texts.safe(options.var)} at {address:#x} = {value(data)}")
+    else:
+        print("\n".join(rows(data, address)))
+
+
 def run(options):
+    if options.pid is None and (options.mem is not None or options.var is not None):
+        raise Fault("--mem and --var want a process")
     with asking.opened(options) as log:
         history = log.history()
-        programs, event = symbols.Programs(options.log, history), event_before(history, options.moment)
-        if options.pid is None:
+        programs, event = symbols.Programs(options.log, history), asking.event_after(history, options.moment)
+        if options.mem is not None:
+            show_bytes(log, options, *targets.memory_range(options.mem))
+        elif options.var is not None:
+            show_bytes(log, options, *asking.variable(programs, history, options.pid, options.moment, options.var))
+        elif options.pid is None:
             show_all(log, options, programs, event)
-            return FOUND
-        if options.mem is None:
-            show_one(log, options, programs, event)
-            return FOUND
-        address, _, length = options.mem.partition("+")
-        address, length = targets.number(address), targets.number(length or "1")
-        data = memory(log, options.moment, options.pid, address, length)
-        if options.json:
-            asking.print_object(address=address, **texts.as_json(data))
         else:
-            print("\n".join(rows(data, address)))
+            show_one(log, options, programs, event)
     return FOUND

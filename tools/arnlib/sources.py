@@ -8,6 +8,8 @@ LINKAGES = ("copy", "data", "index")
 MOST_RANGE = 65_536
 # How much of a line is shown on each side of what is meant, and how much of what is meant at each end.
 AROUND, MOST_SHOWN = 24, 60
+# How many ranges are told of bytes that have several.
+MOST_RANGES = 20
 
 
 class Range(NamedTuple):
@@ -146,7 +148,7 @@ def in_line(data, first, last):
 
 def has_lines(stretch):
     """Whether a stretch is a text, of which a line has a number."""
-    return stretch.name.startswith(("input", "file:")) and b"\0" not in stretch.data
+    return stretch.name.startswith(("input", "file:", "console")) and b"\0" not in stretch.data
 
 
 def range_told(stretch, first, last, is_backwards=False):

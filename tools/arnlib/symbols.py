@@ -16,6 +16,10 @@ ADDR2LINE, NM, READELF = "riscv64-unknown-elf-addr2line", "riscv64-unknown-elf-n
 PACKAGE = "binutils-riscv64-unknown-elf"
 NAMES = "names.json"
 SUM = re.compile("[0-9a-f]{64}")
+# A variable in nm's words: its address, its length, its name, and the path of its source where that is known.
+VARIABLE = re.compile(r"(\d+) (\d+) [bBdDrRsS] (\S+)(?:\t(.*):\d+)?")
+# Functions of the compiler's that change the stack of the function that called them.
+MOVING = "__riscv_"
 
 # Parts of the paths with which libraries were compiled: the SDK's layer, picolibc, the compiler's own.
 LIBRARIES = ("/sdk/unix/", "/sdk/kernel.h", "/newlib/", "/picolibc", "/libgcc/")
@@ -66,7 +70,12 @@ class Place(NamedTuple):
     @property
     def is_library(self):
         """Whether it isn't in the program's own sources."""
-        return self.path is None or any(part in self.path for part in LIBRARIES)
+        return self.path is None or is_library(self.path)
+
+
+def is_library(path):
+    """Whether the path of a source is that of a library."""
+    return any(part in path for part in LIBRARIES)
 
 
 class Tools:
@@ -137,11 +146,18 @@ class Elf:
         return rows[-1] if rows else Frame(STACK_POINTER, 0, {})
 
     def variables(self):
-        """The global variables: name, address and length."""
+        """The global variables: of each name the address and the length."""
         if self.known is None:
-            rows = (line.split() for line in TOOLS.run(NM, "--print-size", "--radix=d", self.path).splitlines())
-            self.known = {words[3]: (int(words[0]), int(words[1])) for words in rows if len(words) == 4 and words[2] in "bBdDrRsS"}
-        return self.known
+            said = TOOLS.run(NM, "--print-size", "--radix=d", "--line-numbers", self.path)
+            self.known = {found[3]: (int(found[1]), int(found[2]), found[4]) for line in said.splitlines()
+                          if (found := VARIABLE.fullmatch(line))}
+        return {name: found[:2] for name, found in self.known.items()}
+
+    def own_variables(self):
+        """Those of the program's own sources; all where none is known to be in them."""
+        found = self.variables()
+        own = {name: found[name] for name, (*_, path) in self.known.items() if path and not is_library(path)}
+        return own or found
 
 
 def place_of(function, place):
@@ -206,7 +222,7 @@ def stack_of(elf, past):
     addresses, registers = [address], list(registers)
     while len(addresses) < MOST_CALLS:
         frame = elf.frame(addresses[-1])
-        if frame is None and len(addresses) > 1:
+        if frame is None and (len(addresses) > 1 or any(place.function.startswith(MOVING) for place in elf.at(address))):
             return Stack(addresses, False)
         registers = caller(frame or Frame(STACK_POINTER, 0, {}), registers, past)
         if registers is None or not WINDOW < registers[RETURN_ADDRESS] <= WINDOW_END:

@@ -3,6 +3,8 @@
 From one process to another a way is exact: a read's record names the event and the place of each byte that was received. Inside a
 group of processes the program doesn't answer which of several receipts of a byte was used, so these are told as `one of`.
 """
+import bisect
+
 from arnlib import sources
 
 # How many instructions and received bytes are followed again for ways at most, where nobody asked for them.
@@ -30,7 +32,7 @@ class Ways:
         found, left, seen = set(), [self.events[number]], {number}
         while left:
             event = left.pop()
-            before = {origin for one in self.receipts(event) for origin, _, _ in one.origins if not self.events[origin].is_input}
+            before = {origin for one in self.receipts(event) for origin, _, _ in one.origins if not self.is_outside(origin)}
             if event.group in self.begun:
                 before.add(self.begun[event.group].number)
             found |= {origin for origin in before if self.events[origin].length}
@@ -55,16 +57,17 @@ class Ways:
             self.asked[key] = sources.back(self.log, self.inputs, linkage, [part])
         return self.asked[key]
 
-    def carried(self, linkage, receipt, wanted):
-        """Of each event of which a receipt has some of the wanted source bytes, which these are."""
+    def is_outside(self, number):
+        """Whether an event isn't the program's: it came in, or the launcher made it of what came in."""
+        return self.events[number].is_input or number <= self.launched
+
+    def carried(self, linkage, receipt, wanted, places):
+        """Of each event of which a receipt has some of the wanted source bytes, which these are. `places` are the same, by their words."""
         found = {}
         for number, place, length in receipt.origins:
-            if self.events[number].is_input:
-                input_at = self.inputs.find(number, place)
-                if input_at is None:
-                    continue
-                stretch, offset = input_at
-                here = {one for one in wanted if one[0] == stretch.name and place + offset <= one[1] < place + offset + length}
+            if self.is_outside(number):
+                stretch, offset = self.inputs.find(number, place) or (None, 0)
+                here = {(stretch.name, at) for at in within(places.get(stretch.name, ()), place + offset, length)} if stretch else ()
             else:
                 given = self.sources(linkage, number)
                 here = {one for at in range(place, place + length) for one in given.get(at, ())} & wanted
@@ -75,11 +78,11 @@ class Ways:
     def step(self, linkage, event, wanted):
         """How the wanted bytes came to an event's group: of each receipt, or of the fork that began the group, which of them it had; and
         the events in front of these, with the bytes that are wanted of them."""
-        layer, before = {}, {}
+        layer, before, places = {}, {}, by_words(wanted)
         for receipt in self.receipts(event):
-            for number, here in self.carried(linkage, receipt, wanted).items():
+            for number, here in self.carried(linkage, receipt, wanted, places).items():
                 layer.setdefault(receipt.number, set()).update(here)
-                if not self.events[number].is_input:
+                if not self.is_outside(number):
                     before.setdefault(number, set()).update(here)
         fork = self.begun.get(event.group)
         if fork is not None:
@@ -103,6 +106,19 @@ class Ways:
             after = {one: here for one, here in before.items() if one not in seen}
             seen |= set(after)
         return steps[::-1]
+
+
+def by_words(wanted):
+    """Source bytes by the words of their stretches: of each the places in it, in order."""
+    found = {}
+    for word, at in sorted(wanted):
+        found.setdefault(word, []).append(at)
+    return found
+
+
+def within(places, first, length):
+    """Those of some places, in order, that are in a range."""
+    return places[bisect.bisect_left(places, first):bisect.bisect_left(places, first + length)]
 
 
 def add_step(steps, layer):

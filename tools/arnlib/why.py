@@ -17,9 +17,6 @@ examples:
   arn why two.log 7:18-25                           where bytes 18 to 25 of event 7 came from
   arn why two.log --at 9000 --pid 1 --var total     where the bytes of a variable came from"""
 
-# How many ranges of sources are told of a run of bytes.
-MOST_RANGES = 20
-
 
 class Answer(NamedTuple):
     """A run of a target's bytes, the linkage that found its sources, and the way of each of their ranges; no ways where none are asked."""
@@ -83,7 +80,7 @@ def answers_of(asked, target, linkages, follows):
 def ways_of(asked, target, linkage, run):
     """The way of each range of a run's sources to the last event that the run is in. Bytes of programs are in each process: they have none."""
     made = []
-    for one in run.ranges[:MOST_RANGES]:
+    for one in run.ranges[:sources.MOST_RANGES]:
         if one.stretch.name.startswith("program:"):
             made.append([])
             continue
@@ -108,13 +105,13 @@ def follows_ways(asked, options, found):
 def told(asked, target, answer):
     """An answer in lines."""
     run, how = answer.run, "" if answer.linkage == "copy" else f", by {answer.linkage}"
-    for index, one in enumerate(run.ranges[:MOST_RANGES]):
+    for index, one in enumerate(run.ranges[:sources.MOST_RANGES]):
         steps = answer.steps[index] if answer.steps else ()
         way = f", by {ways.told(steps, asked.place_of)}" if steps else ""
         said = f"{sources.told(run, one)}{how}{way}"
         yield f"{target.called(run.first, run.last)} <- {said}" if index == 0 else f"    and {said}"
-    if len(run.ranges) > MOST_RANGES:
-        yield f"    and {len(run.ranges) - MOST_RANGES} more ranges (--json: all)"
+    if len(run.ranges) > sources.MOST_RANGES:
+        yield f"    and {len(run.ranges) - sources.MOST_RANGES} more ranges (--json: all)"
 
 
 def print_answer(asked, target, answers, left):
