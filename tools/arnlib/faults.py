@@ -15,9 +15,8 @@ class Fault(Exception):
 
 
 def say(text, end="\n"):
-    """Prints on standard error. Where that is closed or full, nothing is said."""
+    """Prints on standard error. Where that is full, nothing is said."""
     try:
-        if sys.stderr is not None:
-            print(text, end=end, file=sys.stderr, flush=True)
+        print(text, end=end, file=sys.stderr, flush=True)
     except OSError:
         pass

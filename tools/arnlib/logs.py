@@ -6,14 +6,12 @@ is asked on a copy, in a folder that only its owner can enter and that goes at t
 import contextlib
 import fcntl
 import os
-import shutil
 import signal
-import sys
 import tempfile
 
 import arnold_log
 from arnlib import texts
-from arnlib.faults import Fault
+from arnlib.faults import Fault, say
 from arnlib.program import Dialogue, Ended, find_program
 
 SHORTEST = 10
@@ -127,7 +125,7 @@ class AskedLog:
     def say_what_is_missing(self):
         """Says on standard error that the end of the log is missing, where it is."""
         if self.note:
-            print(f"arn: {texts.safe(self.path)}: {self.note}: what is answered is about what was committed", file=sys.stderr)
+            say(f"arn: {texts.safe(self.path)}: {self.note}: what is answered is about what was committed")
 
 
 def end_at(number, frame):

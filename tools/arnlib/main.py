@@ -10,9 +10,9 @@ from arnlib.faults import Fault, UNASKED, say
 VERSION = "arn 1"
 INTERRUPTED, CLOSED = 130, 141
 
-# Of each subcommand the file that has it, and what it does. A file of that name has DESCRIPTION, EXAMPLE, `add_words(parser)` and
-# `run(options)`, which gives the status; FAULT, the status of faults, where that isn't 2; and PROGRAM_WORDS where what stands behind
-# `--` are words of a program, which it gets as `options.words`.
+# Of each subcommand the file that has it, and what it does. A file of that name has DESCRIPTION, EXAMPLE, `add_words(parser)`
+# and `run(options)`, which gives the status; FAULT, the status of faults, where that isn't 2; and PROGRAM_WORDS where what stands
+# behind `--` are words of a program, which it gets as `options.words`.
 COMMANDS = {
     "record": "runs a program and keeps all of it in a log",
     "resume": "goes on with a recording that was ended",
@@ -47,6 +47,10 @@ class Parser(argparse.ArgumentParser):
 
     def __init__(self, **words):
         super().__init__(formatter_class=argparse.RawDescriptionHelpFormatter, allow_abbrev=False, **words)
+
+    def _print_message(self, message, file=None):
+        """Prints help; a write that fails isn't passed over."""
+        (file or sys.stdout).write(message)
 
     def error(self, message):
         raise Fault(f"{message} (see {self.prog} --help)", self.fault)
@@ -110,8 +114,7 @@ def lose_output():
 def write_rest():
     """Writes what was printed until now, as far as that goes."""
     try:
-        if sys.stdout is not None:
-            sys.stdout.flush()
+        sys.stdout.flush()
     except OSError:
         lose_output()
 
@@ -129,17 +132,27 @@ def chosen(words):
     raise Fault(f"there is no command {words[0]!r} (see arn --help)")
 
 
+def open_streams():
+    """Makes a closed standard output one whose reader is gone, and a closed standard error one that keeps nothing. What can't be printed
+    in the letters of the terminal is printed as an escape."""
+    if sys.stdout is None:
+        reader, writer = os.pipe()
+        os.close(reader)
+        sys.stdout = open(writer, "w", encoding="utf-8")
+    if sys.stderr is None:
+        sys.stderr = open(os.devnull, "w", encoding="utf-8")
+    for stream in (sys.stdout, sys.stderr):
+        stream.reconfigure(errors="backslashreplace")
+
+
 def flushed(words):
     """Runs what the words ask for, and gives its status when all that it printed is written."""
-    for stream in (sys.stdout, sys.stderr):
-        if stream is not None:
-            stream.reconfigure(errors="backslashreplace")
+    open_streams()
     try:
         status = chosen(words)
     except SystemExit as ended:
         status = ended.code or 0
-    if sys.stdout is not None:
-        sys.stdout.flush()
+    sys.stdout.flush()
     return status
 
 

@@ -46,7 +46,7 @@ class Progress:
 
     def __init__(self):
         self.begun = self.last = time.monotonic()
-        self.is_shown, self.is_watched = False, sys.stderr is not None and sys.stderr.isatty()
+        self.is_shown, self.is_watched = False, sys.stderr.isatty()
 
     def show(self, instructions):
         now = time.monotonic()
@@ -95,8 +95,7 @@ class Recording:
         if self.collected is not None:
             self.collected.append(data)
             return
-        if self.is_closed or sys.stdout is None:
-            self.is_closed = True
+        if self.is_closed:
             return
         self.progress.hide()
         try:
