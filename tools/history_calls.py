@@ -69,7 +69,7 @@ def ask_memory(history, session, registers):
     for answer, (event, _, _) in zip(answers, asked):
         words = answer.lines[0]
         if words[0] == "mem" and event.what == "write":
-            unknown[event.number] = bytes.fromhex(words[1])
+            unknown[event.number] = list(bytes.fromhex(words[1]))
         elif words[0] == "mem":
             event.name = bytes.fromhex(words[1])
     for number, known in unknown.items():

@@ -153,10 +153,9 @@ def source_ranges(found, outputs):
     return ranges
 
 
-def event_data(event, words, descriptors, kept, runs):
-    """One event as the page has it."""
-    data = {"m": event.moment, "w": event.what, "a": argument_text(event, words, descriptors), "r": result_text(event),
-            "n": event.length, "x": role_of(event)}
+def event_data(event, argument, kept, runs):
+    """One event as the page has it. The argument is what its call was made with, in words."""
+    data = {"m": event.moment, "w": event.what, "a": argument, "r": result_text(event), "n": event.length, "x": role_of(event)}
     if event.process is not None:
         data.update(p=event.process, g=event.group)
     if event.data is not None and kept:
@@ -180,11 +179,16 @@ def outside_of(event):
     return "typed" if event.kind == "type" else f"file {text_of(event.name)}"
 
 
-def target_of(event, names):
+def written_to(event, names):
     """Where the bytes of an output went."""
     if event.did == "console":
         return "console"
-    return f"to file {names.get(event.file, event.file)}" if event.did == "put" else f"to device {event.device}"
+    return f"file {names.get(event.file, event.file)}" if event.did == "put" else f"device {event.device}"
+
+
+def target_of(event, names):
+    """The same as a node of the graph."""
+    return "console" if event.did == "console" else f"to {written_to(event, names)}"
 
 
 def exchange(history):
@@ -259,11 +263,12 @@ def asked_senders(history, outputs, options, notes):
 
 def events_data(history, registers, found, outputs, most):
     """All events as the page has them."""
-    ranges, descriptors = source_ranges(found, outputs), Descriptors()
+    ranges, descriptors, names = source_ranges(found, outputs), Descriptors(), file_names(history)
     for event in history.events:
         words = registers.get(event.number)
         kept = ranges_kept(event, ranges.get(event.number, ()), outputs, most)
-        yield event_data(event, words, descriptors, kept, found.get(event.number))
+        argument = argument_text(event, words, descriptors) or (written_to(event, names) if event.is_output else "")
+        yield event_data(event, argument, kept, found.get(event.number))
         descriptors.happen(event, words[10] if words else None)
 
 

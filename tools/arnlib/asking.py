@@ -17,6 +17,28 @@ def add_log(parser, has_json=True):
     parser.add_argument("--program", help="the program arnold")
 
 
+class Answers:
+    """A log as the modules of the page ask it: some lines at once."""
+
+    def __init__(self, log):
+        self.log = log
+
+    def ask(self, lines):
+        """The answer to each line."""
+        for line in lines:
+            yield Answer(list(self.log.ask(line)))
+
+
+class Answer:
+    """The lines of an answer, each as its words."""
+
+    def __init__(self, lines):
+        self.lines = lines
+
+    def __iter__(self):
+        return iter(self.lines)
+
+
 def opened(options):
     """The log of the words, of which it is said where its end is missing."""
     log = logs.AskedLog(options.log, options.program)

@@ -2,36 +2,24 @@
 import sys
 
 import history_calls
-from arnlib import asking, calls, places, targets, texts
+from arnlib import asking, calls, past, places, symbols, targets, texts
 from arnlib.faults import FOUND, NOTHING
 
 DESCRIPTION = """Lists what happened: calls with their arguments and results, signals, ends. Arguments aren't in the log: they are
 asked for, as long as at most 200,000,000 instructions run again for it, or with --arguments."""
-EXAMPLE = """example:
-  arn events leak.log --pid 1"""
+EXAMPLE = """Each line has the event's number, how many instructions had run, the process, and what it did.
+
+examples:
+  arn events two.log --pid 1              what process 1 did
+  arn events two.log --pid 1 --calls      the same, with the places of its calls"""
 
 
 def add_words(parser):
     asking.add_log(parser)
     parser.add_argument("--pid", metavar="P", type=targets.number, help="of this process alone")
+    parser.add_argument("--calls", action="store_true", help="with each call the place where it was made, and the calls above")
     parser.add_argument("--arguments", choices=("yes", "no", "auto"), default="auto", help="whether arguments are asked for")
     parser.add_argument("--launch", action="store_true", help="also what came before the program's start")
-
-
-class Answers:
-    """The log as the module of calls asks it."""
-
-    def __init__(self, log):
-        self.log = log
-
-    def ask(self, lines):
-        for line in lines:
-            yield Answer(list(self.log.ask(line)))
-
-
-class Answer:
-    def __init__(self, lines):
-        self.lines = lines
 
 
 def asked_registers(log, history, options):
@@ -41,27 +29,37 @@ def asked_registers(log, history, options):
         if options.arguments == "auto":
             print(f"arn: without arguments, for which {cost:,} instructions would run again (--arguments yes)", file=sys.stderr)
         return {}
-    registers = history_calls.ask_arguments(history, Answers(log))
-    history_calls.ask_memory(history, Answers(log), registers)
+    registers = history_calls.ask_arguments(history, asking.Answers(log))
+    history_calls.ask_memory(history, asking.Answers(log), registers)
     return registers
 
 
-def print_event(options, event, registers):
+def where_called(log, programs, event):
+    """Where the call of an event was made, with the calls above; None where that isn't known."""
+    if event.kind != "call" or programs.elf(event.process, event.number) is None:
+        return None
+    address, _ = past.Past(log, event.moment - 1, event.process).registers
+    return programs.calls(log, event.process, event.number, event.moment - 1, address)
+
+
+def print_event(options, event, registers, where):
+    """Prints an event."""
+    line = calls.line(event, registers.get(event.number))
     if options.json:
         parts = {} if event.data is None else texts.as_json(event.data)
         asking.print_object(event=event.number, moment=event.moment, process=event.process, what=event.what, result=event.result,
-                            length=event.length, **parts)
+                            length=event.length, line=line, **({"where": where} if where else {}), **parts)
     else:
-        print(f"{event.number:>6} {event.moment:>10} {calls.line(event, registers.get(event.number))}")
+        print(f"{event.number:>6} {event.moment:>10} {line}" + (f"\n{'':18}{where}" if where else ""))
 
 
 def run(options):
     with asking.opened(options) as log:
         history = log.history()
-        registers = asked_registers(log, history, options)
-    launched, is_found = -1 if options.launch else places.launch(history), False
-    for event in history.events:
-        if event.number > launched and options.pid in (None, event.process):
-            print_event(options, event, registers)
-            is_found = True
+        registers, programs = asked_registers(log, history, options), symbols.Programs(options.log, history)
+        launched, is_found = -1 if options.launch else places.launch(history), False
+        for event in history.events:
+            if event.number > launched and options.pid in (None, event.process):
+                print_event(options, event, registers, where_called(log, programs, event) if options.calls else None)
+                is_found = True
     return FOUND if is_found else NOTHING
