@@ -137,7 +137,7 @@ def faults(data):
 def run(options):
     try:
         if options.session == "-":
-            data = sys.stdin.buffer.read() if sys.stdin is not None else b""
+            data = sys.stdin.buffer.read()
         else:
             with open(options.session, "rb") as file:
                 data = file.read()

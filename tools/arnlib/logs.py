@@ -6,7 +6,6 @@ is asked on a copy, in a folder that only its owner can enter and that goes at t
 import contextlib
 import fcntl
 import os
-import signal
 import tempfile
 
 import arnold_log
@@ -15,7 +14,6 @@ from arnlib.faults import Fault, say
 from arnlib.program import Dialogue, Ended, find_program
 
 SHORTEST = 10
-ENDINGS = (signal.SIGTERM, signal.SIGHUP)
 
 
 def lock_of(log):
@@ -83,7 +81,7 @@ class AskedLog:
         return self
 
     def __exit__(self, *failure):
-        self.exits.close()
+        return self.exits.__exit__(*failure)
 
     def open(self):
         """The dialogue about the log, or about a copy of it."""
@@ -97,8 +95,6 @@ class AskedLog:
 
     def copy(self):
         """A copy of what is asked, in a folder that goes at the end."""
-        for ending in ENDINGS:
-            signal.signal(ending, end_at)
         folder = self.exits.enter_context(tempfile.TemporaryDirectory(prefix="arn-"))
         path = os.path.join(folder, "log")
         with open(path, "xb") as file:
@@ -126,8 +122,3 @@ class AskedLog:
         """Says on standard error that the end of the log is missing, where it is."""
         if self.note:
             say(f"arn: {texts.safe(self.path)}: {self.note}: what is answered is about what was committed")
-
-
-def end_at(number, frame):
-    """A signal ends the command as Ctrl-C does, so that copies go."""
-    raise SystemExit(128 + number)

@@ -2,6 +2,7 @@
 import argparse
 import importlib
 import os
+import signal
 import sys
 
 from arnlib import texts
@@ -132,9 +133,23 @@ def chosen(words):
     raise Fault(f"there is no command {words[0]!r} (see arn --help)")
 
 
+def end_at(number, frame):
+    """A signal ends the command as Ctrl-C does, so that folders of its own go."""
+    raise SystemExit(128 + number)
+
+
+def heed_signals():
+    """Heeds the signals that end a command, but for one that it was started to ignore."""
+    for number in (signal.SIGTERM, signal.SIGHUP):
+        if signal.getsignal(number) != signal.SIG_IGN:
+            signal.signal(number, end_at)
+
+
 def open_streams():
-    """Makes a closed standard output one whose reader is gone, and a closed standard error one that keeps nothing. What can't be printed
-    in the letters of the terminal is printed as an escape."""
+    """Opens streams that are closed: an input that is empty, an output whose reader is gone, a standard error that keeps nothing. What
+    can't be printed in the letters of the terminal is printed as an escape."""
+    if sys.stdin is None:
+        sys.stdin = open(os.devnull, encoding="utf-8")
     if sys.stdout is None:
         reader, writer = os.pipe()
         os.close(reader)
@@ -148,6 +163,7 @@ def open_streams():
 def flushed(words):
     """Runs what the words ask for, and gives its status when all that it printed is written."""
     open_streams()
+    heed_signals()
     try:
         status = chosen(words)
     except SystemExit as ended:

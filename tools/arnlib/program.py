@@ -51,7 +51,10 @@ class Dialogue:
     def __enter__(self):
         return self
 
-    def __exit__(self, *failure):
+    def __exit__(self, failure, *_):
+        """Ends the session; at once where something went wrong, such as Ctrl-C while an answer is waited for."""
+        if failure is not None:
+            self.process.kill()
         self.close()
 
     def close(self):

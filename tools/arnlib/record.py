@@ -124,13 +124,13 @@ def check_variables(variables):
 
 def terminal():
     """The descriptor of a terminal that is the input, or None."""
-    return sys.stdin.fileno() if sys.stdin is not None and sys.stdin.isatty() else None
+    return sys.stdin.fileno() if sys.stdin.isatty() else None
 
 
 def read_input():
-    """The bytes of standard input; none where that is closed."""
+    """The bytes of standard input."""
     try:
-        return limited(sys.stdin.buffer.read(launcher.MOST_FILE + 1) if sys.stdin is not None else b"", "the input")
+        return limited(sys.stdin.buffer.read(launcher.MOST_FILE + 1), "the input")
     except OSError as error:
         raise Fault(f"standard input: {error.strerror}") from None
 

@@ -30,7 +30,8 @@ class Signals:
         """`kill` ends the program at once."""
         self.status, self.is_waiting, self.is_killed, self.kill = None, False, False, kill
         for number in SIGNALS:
-            signal.signal(number, self.happen)
+            if signal.getsignal(number) != signal.SIG_IGN:
+                signal.signal(number, self.happen)
 
     def happen(self, number, frame):
         if self.status is not None:
