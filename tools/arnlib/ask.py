@@ -7,8 +7,8 @@ from arnlib.faults import FOUND
 
 DESCRIPTION = """Asks the program by its own lines (docs/SESSION.md): those of standard input, or at a prompt with line editing and
 history where that is a terminal. Hex in answers is shown as text. Lines that would change the log are refused."""
-EXAMPLE = """example:
-  echo 'back copy event 7 0 27' | arn ask leak.log"""
+EXAMPLE = asking.MADE + """
+  echo 'back copy event 10 0 27' | tools/arn ask hello.log"""
 QUESTIONS = ("back", "forth", "show", "groups", "events", "verify")
 HEX = re.compile(r"(out \d+ \d+|mem|file) (-|(?:[0-9a-f]{2})+)")
 

@@ -5,6 +5,11 @@ import sys
 from arnlib import logs, places, sources, texts
 from arnlib.faults import Fault
 
+# How the log of the examples is made.
+MADE = """examples, from the repository's top, on a log that this makes:
+  echo 'maximilianus battery9' | tools/arn record examples/leak/hello.img
+"""
+
 # From how many instructions on that run again a question may take above ten seconds.
 LONG = 200_000_000
 

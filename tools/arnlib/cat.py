@@ -5,8 +5,8 @@ from arnlib import asking, files, targets, texts
 from arnlib.faults import FOUND, Fault
 
 DESCRIPTION = "Prints the bytes of a file as they were at a moment, when so many instructions had run. Without a moment: at the end."
-EXAMPLE = """example:
-  arn cat two.log notes --at 9000"""
+EXAMPLE = asking.MADE + """
+  tools/arn cat hello.log hello > hello.copy    the file of the program itself"""
 
 
 def add_words(parser):

@@ -9,9 +9,9 @@ DESCRIPTION = """Lists what happened: calls with their arguments and results, si
 asked for, as long as at most 200,000,000 instructions run again for it, or with --arguments."""
 EXAMPLE = """Each line has the event's number, how many instructions had run, the process, and what it did.
 
-examples:
-  arn events two.log --pid 1              what process 1 did
-  arn events two.log --pid 1 --calls      the same, with the places of its calls"""
+""" + asking.MADE + """
+  tools/arn events hello.log                    all that happened
+  tools/arn events hello.log --pid 1 --calls    what process 1 did, with the places of its calls"""
 
 
 def add_words(parser):

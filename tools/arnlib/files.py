@@ -4,8 +4,8 @@ from arnlib.faults import FOUND, NOTHING, Fault
 
 DESCRIPTION = """Lists the files that had a name at a moment, when so many instructions had run, with their lengths. Without a moment: at the
 end. The status is 1 where there is none."""
-EXAMPLE = """example:
-  arn files two.log --at 9000"""
+EXAMPLE = asking.MADE + """
+  tools/arn files hello.log --at 100    the files when 100 instructions had run"""
 
 
 def add_words(parser):

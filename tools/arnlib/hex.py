@@ -6,7 +6,7 @@ from arnlib.faults import FOUND, Fault
 
 DESCRIPTION = "Prints the hex of a text with C's escapes, for a line of a session; or with --text the text of such hex."
 EXAMPLE = """example:
-  arn hex 'ann opensesame\\n'"""
+  tools/arn hex 'ann opensesame\\n'"""
 
 
 def add_words(parser):

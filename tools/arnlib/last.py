@@ -7,9 +7,9 @@ from arnlib.faults import FOUND, NOTHING, Fault
 DESCRIPTION = """Finds the moment at which a byte or a global variable of a process last changed, and what changed it: the instruction, the calls
 above, the event. It looks at few moments, by halving: an earlier or a later write of the same value may stand between. The status is 1
 where no change is seen."""
-EXAMPLE = """examples:
-  arn last two.log 1 total                     what last changed the variable `total` of process 1
-  arn last two.log 1 0x11d98 --at 9000         what changed the byte at this address last before moment 9000"""
+EXAMPLE = asking.MADE + """
+  tools/arn last hello.log 1 0x102d8             what last changed the byte at this address
+  tools/arn last hello.log 1 0x102d8 --at 300    the same, as it was when 300 instructions had run"""
 
 
 class Change(NamedTuple):

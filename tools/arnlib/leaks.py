@@ -7,8 +7,9 @@ run has ended, and no byte of the one reached the other; 1 with each flow; 2 wit
 aren't followed: what a program decides by a byte isn't a flow of that byte."""
 EXAMPLE = """TEXT is looked for in all that came in: input, files, arguments, variables, devices; not in programs.
 
-example:
-  arn leaks two.log --from secret --to console          status 1: it was printed"""
+""" + asking.MADE + """
+  tools/arn leaks hello.log --from battery9 --to console     status 1: it was printed
+  tools/arn leaks hello.log --from battery9 --to device:0    status 0: it wasn't written there"""
 LEAKS, CLEAN = 1, 0
 # The devices that the program has (docs/SESSION.md).
 DEVICES = ("device:0", "device:1", "device:2")

@@ -13,8 +13,8 @@ from arnlib.program import HERE
 
 DESCRIPTION = """Prints one page of a log for a browser: its events as a timeline, what groups of processes exchanged, and outputs with the
 input bytes that they came from (tools/README.md). The page opens from disk, and loads nothing."""
-EXAMPLE = """example:
-  arn page two.log > two.html"""
+EXAMPLE = asking.MADE + """
+  tools/arn page hello.log > hello.html"""
 
 
 def add_words(parser):

@@ -7,8 +7,8 @@ from arnlib.faults import FOUND, NOTHING, UNASKED, Fault
 DESCRIPTION = """Says which outputs some bytes of an input reached: the console, files, devices. The bytes are those of a text in what
 came in (each place of it), or bytes of an event. The linkage says which instructions pass bytes on (docs/LINEAGE.md): what a program
 decides by a byte isn't followed. The status is 1 where they reached nothing."""
-EXAMPLE = """example:
-  arn reach two.log secret          which outputs the bytes of `secret` in the input reached"""
+EXAMPLE = asking.MADE + """
+  tools/arn reach hello.log battery9    which outputs these bytes of the input reached"""
 
 # Ranges of one event that are nearer to each other than this are asked for by one line.
 NEAR = 4096

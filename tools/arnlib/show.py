@@ -4,11 +4,10 @@ from arnlib.faults import FOUND, Fault
 
 DESCRIPTION = """Shows a process as it was at a moment, when so many instructions had run: where it stood and the calls above, its registers,
 the global variables of its own sources; or memory or a variable that is asked for. Without a process: those that lived then, and where each stood."""
-EXAMPLE = """examples:
-  arn show two.log 9000                         which processes lived, and where each stood
-  arn show two.log 9000 1                       all of process 1
-  arn show two.log 9000 1 --mem 0x10000+32      bytes of its memory
-  arn show two.log 9000 1 --var total           its variable `total`"""
+EXAMPLE = asking.MADE + """
+  tools/arn show hello.log 300                       which processes lived, and where each stood
+  tools/arn show hello.log 300 1                     all of process 1
+  tools/arn show hello.log 300 1 --mem 0x102d8+32    bytes of its memory"""
 BYTES_A_ROW, REGISTERS_A_ROW = 16, 4
 # Where all variables are shown: of how many bytes one is at most, and how many bytes of it are shown.
 LONGEST, MOST_SHOWN = 4096, 16

@@ -3,8 +3,8 @@ from arnlib import asking
 from arnlib.faults import FOUND, NOTHING
 
 DESCRIPTION = "Runs the whole history again, and says whether the log is the record of a run. The status is 1 if it isn't."
-EXAMPLE = """example:
-  arn verify leak.log"""
+EXAMPLE = asking.MADE + """
+  tools/arn verify hello.log    status 0: it is one"""
 
 
 def add_words(parser):

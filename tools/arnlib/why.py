@@ -10,12 +10,15 @@ DESCRIPTION = """Says which input bytes some bytes came from: those of a text in
 memory, of a variable, of a register or of a file at a moment. Each byte is asked by the linkage `copy`; bytes without a source by
 `data`, then by `index` (docs/LINEAGE.md). Each answer names the events by which the bytes came, and where in the program their calls
 were made. The status is 1 where no byte came from an input."""
-EXAMPLE = """TEXT has C's escapes. FROM and TO are the first and the last byte.
+EXAMPLE = """Without a moment, FROM and TO are the first and the last byte of an event. TEXT has C's escapes. `--json` prints an object for each run of
+bytes whose sources go on together: of, from, to, bytes (of events), hex, text, linkage, sources; of each source name, from, to, step,
+bytes, line, hex, text, way.
 
-examples:
-  arn why two.log secret                            where the last `secret` that was written came from
-  arn why two.log 7:18-25                           where bytes 18 to 25 of event 7 came from
-  arn why two.log --at 9000 --pid 1 --var total     where the bytes of a variable came from"""
+""" + asking.MADE + """
+  tools/arn why hello.log battery9                             where this text in the output came from
+  tools/arn why hello.log 10:18-25                             where bytes 18 to 25 of event 10 came from
+  tools/arn why hello.log --at 300 --pid 1 --mem 0x102d8+12    where 12 bytes of memory came from
+  tools/arn why hello.log --at 300 --pid 1 --reg a0            where a register's eight bytes came from"""
 
 
 class Answer(NamedTuple):
