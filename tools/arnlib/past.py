@@ -1,6 +1,7 @@
 """A process as it was at a moment: its registers and its memory."""
 from arnlib import texts
 from arnlib.faults import Fault
+from arnlib.sources import refusal
 
 # The window of each process (docs/MACHINE.md), and how much of it is asked for at once.
 WINDOW, WINDOW_END, PIECE = 0x10000, 0x50000, 0x1000
@@ -15,7 +16,7 @@ def answer(log, line, word, missing):
     if words == ["no", "point"]:
         raise Fault(missing)
     if words[0] != word:
-        raise Fault(f"the program answers {' '.join(words)}")
+        raise Fault(refusal(words))
     return words[1:]
 
 
