@@ -1,9 +1,10 @@
 """What all questions have: their words, lists that are printed as text or as objects, and what is said of long ones."""
 import json
 import sys
+import time
 
 from arnlib import logs, places, sources, texts
-from arnlib.faults import Fault
+from arnlib.faults import Fault, say
 
 # How the log of the examples is made.
 MADE = """examples, from the repository's top, on a log that this makes:
@@ -12,6 +13,8 @@ MADE = """examples, from the repository's top, on a log that this makes:
 
 # From how many instructions on that run again a question may take above ten seconds.
 LONG = 200_000_000
+# After how many seconds a terminal shows how far a question is, and how often.
+PROGRESS_AFTER, PROGRESS_EACH = 2.0, 0.5
 
 
 def add_log(parser, has_json=True):
@@ -44,9 +47,37 @@ class Answer:
         return iter(self.lines)
 
 
+class WatchedLog(logs.AskedLog):
+    """A log of which a terminal shows how many lines were answered, where that takes long."""
+
+    def __init__(self, path, named):
+        self.begun = self.last = time.monotonic()
+        self.count, self.is_shown = 0, False
+        super().__init__(path, named)
+
+    def __exit__(self, *failure):
+        self.wipe()
+        super().__exit__(*failure)
+
+    def ask(self, line):
+        """The lines of an answer."""
+        self.count += 1
+        now = time.monotonic()
+        if now - self.begun > PROGRESS_AFTER and now - self.last > PROGRESS_EACH and sys.stderr is not None and sys.stderr.isatty():
+            say(f"\r{self.count:,} lines asked in {now - self.begun:.0f} seconds ", end="")
+            self.last, self.is_shown = now, True
+        return super().ask(line)
+
+    def wipe(self):
+        """Takes what was shown away."""
+        if self.is_shown:
+            say("\r" + " " * 60 + "\r", end="")
+            self.is_shown = False
+
+
 def opened(options):
     """The log of the words, of which it is said where its end is missing."""
-    log = logs.AskedLog(options.log, options.program)
+    log = WatchedLog(options.log, options.program)
     log.say_what_is_missing()
     return log
 
@@ -76,7 +107,7 @@ def as_place(stretch, first, last):
 def say_how_long(instructions):
     """Says of a question that it may take long, where it may."""
     if instructions > LONG:
-        print(f"arn: up to {instructions:,} instructions run again, which may take above ten seconds", file=sys.stderr, flush=True)
+        say(f"arn: up to {instructions:,} instructions run again, which may take above ten seconds")
 
 
 def event_after(history, moment):

@@ -1,9 +1,7 @@
 """arn events: what happened, as strace does."""
-import sys
-
 import history_calls
 from arnlib import asking, calls, past, places, symbols, targets, texts
-from arnlib.faults import FOUND, NOTHING
+from arnlib.faults import FOUND, NOTHING, say
 
 DESCRIPTION = """Lists what happened: calls with their arguments and results, signals, ends. Arguments aren't in the log: they are
 asked for, as long as at most 200,000,000 instructions run again for it, or with --arguments."""
@@ -27,7 +25,7 @@ def asked_registers(log, history, options):
     cost = history_calls.cost_of_arguments(history)
     if options.arguments == "no" or options.arguments == "auto" and cost > calls.MOST_FOR_ARGUMENTS:
         if options.arguments == "auto":
-            print(f"arn: without arguments, for which {cost:,} instructions would run again (--arguments yes)", file=sys.stderr)
+            say(f"arn: without arguments, for which {cost:,} instructions would run again (--arguments yes)")
         return {}
     registers = history_calls.ask_arguments(history, asking.Answers(log))
     history_calls.ask_memory(history, asking.Answers(log), registers)

@@ -6,10 +6,10 @@ import os
 import re
 import shutil
 import subprocess
-import sys
 from typing import NamedTuple
 
 from arnlib import texts
+from arnlib.faults import say
 from arnlib.past import RETURN_ADDRESS, STACK_POINTER, WINDOW, WINDOW_END, Past
 
 ADDR2LINE, NM, READELF = "riscv64-unknown-elf-addr2line", "riscv64-unknown-elf-nm", "riscv64-unknown-elf-readelf"
@@ -88,7 +88,7 @@ class Tools:
         """What a tool prints."""
         if shutil.which(tool) is None:
             if not self.is_said:
-                print(f"arn: names of functions and variables need {tool}: apt-get install {PACKAGE}", file=sys.stderr)
+                say(f"arn: names of functions and variables need {tool}: apt-get install {PACKAGE}")
             self.is_said = True
             return ""
         return subprocess.run([tool, *words], input=given, capture_output=True, text=True, errors="replace").stdout

@@ -1,10 +1,9 @@
 """arn why: which input bytes some bytes came from."""
 import functools
-import sys
 from typing import NamedTuple
 
 from arnlib import asking, places, sources, symbols, targets, texts, ways
-from arnlib.faults import FOUND, NOTHING, Fault
+from arnlib.faults import FOUND, NOTHING, Fault, say
 
 DESCRIPTION = """Says which input bytes some bytes came from: those of a text in what the program wrote, those of an event, or those of
 memory, of a variable, of a register or of a file at a moment. Each byte is asked by the linkage `copy`; bytes without a source by
@@ -95,14 +94,14 @@ def ways_of(asked, target, linkage, run):
 def follows_ways(asked, options, found):
     """Whether ways are asked for. What takes long is said first."""
     events = {piece.event for target in found for piece in target.pieces}
-    if options.ways == "no" or not events:
-        return False
-    cost = sum(asked.ways.cost(event) for event in events)
+    direct = sum(asked.history.events[event].moment for event in events) + (options.at or 0)
+    cost = sum(asked.ways.cost(event) for event in events) if options.ways != "no" else 0
+    follows = bool(events) and options.ways != "no"
     if options.ways == "auto" and cost > ways.MOST_FOLLOWED:
-        print(f"arn: without the events on the way, for which {cost:,} instructions may run again (--ways yes)", file=sys.stderr)
-        return False
-    asking.say_how_long(cost)
-    return True
+        say(f"arn: without the events on the way, for which {cost:,} instructions may run again (--ways yes)")
+        follows, cost = False, 0
+    asking.say_how_long(direct + cost)
+    return follows
 
 
 def told(asked, target, answer):
