@@ -6,7 +6,7 @@ from arnlib import texts
 LONGEST, LARGEST = 1_048_576, 262_144
 LABEL = re.compile(r"[A-Za-z0-9_]{1,32}")
 NUMBER = re.compile(r"-?(?:0|[1-9][0-9]*|0x[0-9a-fA-F]+)")
-REGISTERS = {f"x{k}" for k in range(32)} | {f"s{k}" for k in range(12)} | {f"a{k}" for k in range(8)} | {f"t{k}" for k in range(7)} \
+REGISTERS = {f"{letter}{k}" for letter, count in (("x", 32), ("s", 12), ("a", 8), ("t", 7)) for k in range(count)} \
     | {"zero", "ra", "sp", "gp", "tp", "fp"}
 
 SIGNED_12, UPPER, SHIFT_64, SHIFT_32 = (-2048, 2047), (0, 0xfffff), (0, 63), (0, 31)
@@ -14,7 +14,8 @@ BRANCH, JUMP = (-4096, 4094), (-(1 << 20), (1 << 20) - 2)
 
 
 def shapes():
-    """Of each word its operands: R a register, M a number before a register in parentheses, L a label, N a number; and its field."""
+    """Of each word its operands, and the field of its number: R is a register, M a number before a register in parentheses, L a
+    label, N a number."""
     found = {}
     for words, operands, field in (
             ("lui auipc", "RN", UPPER), ("jal", "RL", JUMP), ("jalr lb lh lw ld lbu lhu lwu sb sh sw sd", "RM", SIGNED_12),

@@ -20,8 +20,8 @@ def forked(history, process, before):
 def what_is(history, process, descriptor, argument, before=None):
     """What a descriptor is before an event, or at the end. `argument(event)` gives the first argument of a call.
 
-    It is what the last call made that had it as a result, of the process or, before a fork, of its parent. A process begins with the
-    console as the first three.
+    It is what the last call made that had it as a result, of the process or, before a fork, of its parent. A process begins with
+    the console as the first three.
     """
     before = len(history.events) if before is None else before
     while True:

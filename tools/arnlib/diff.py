@@ -4,8 +4,8 @@ from itertools import zip_longest
 from arnlib import asking, calls, logs, places, texts
 from arnlib.faults import FOUND, NOTHING
 
-DESCRIPTION = """Finds the first call, by process, at which two recordings differ: in its number, its result or its bytes. Where no
-process differs, it finds the first place at which the same calls came in another order. The status is 1 where they differ."""
+DESCRIPTION = """Finds the first call, by process, at which two recordings differ: in its number, its result or its bytes. Where
+no process differs, it finds the first place at which the same calls came in another order. The status is 1 where they differ."""
 EXAMPLE = """example:
   arn diff race.seed1.log race.seed2.log"""
 

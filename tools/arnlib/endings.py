@@ -137,7 +137,8 @@ def of_process(recording, history, event):
     if event.what != "end":
         return Ending("signal", event.status, f"ended by signal {event.signal}, status {event.status}", {"signal": event.signal})
     reason, place = fault_reason(recording, event)
-    where = symbols.Programs(recording.log, history).calls(recording.dialogue, event.process, event.number, event.moment - 1, place)
+    named = symbols.Programs(recording.log, history)
+    where = named.calls(recording.dialogue, event.process, event.number, event.moment - 1, place)
     parts = {"moment": event.moment - 1, "reason": reason, "where": where}
     return Ending("fault", event.status, f"fault {event.status} at moment {event.moment - 1}: {reason}, {where}", parts)
 
@@ -147,7 +148,8 @@ def told(recording, name, stop):
     history = arnold_log.read_history(recording.log)
     event = ending_of(history)
     ending = of_process(recording, history, event) if event else stop or Ending("waits", WAITS, "it hasn't ended")
-    counts = f"{texts.plural(history.total, 'instruction')}, {texts.plural(len(history.events), 'event')}, log {texts.safe(recording.log)}"
+    ran, happened = texts.plural(history.total, "instruction"), texts.plural(len(history.events), "event")
+    counts = f"{ran}, {happened}, log {texts.safe(recording.log)}"
     said = f"{name}: {ending.said}, {counts}" + (f"; {stop.said}" if event and stop else "")
     parts = {"program": name, **ending.parts, "instructions": history.total, "events": len(history.events), "log": recording.log}
     return ending._replace(said=said, parts=parts)

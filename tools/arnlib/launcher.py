@@ -1,7 +1,7 @@
 """The program that `arn record` boots: it puts long files together, opens the input, and starts the recorded program.
 
-It is text for an `asm` block, so that no compiler is needed. What it makes for itself has names that begin with `.arn/`, and these
-are gone before the program starts.
+It is text for an `asm` block, so that no compiler is needed. What it makes for itself has names that begin with `.arn/`, and
+these are gone before the program starts.
 """
 import struct
 from typing import NamedTuple
@@ -35,7 +35,8 @@ class GivenFile(NamedTuple):
     data: bytes
 
     def pieces(self, number):
-        """The files that lines give of it: it alone, or its parts, which the launcher puts together. `number` tells it from others."""
+        """The files that lines give of it: it alone, or its parts, which the launcher puts together. `number` tells it from
+        others."""
         if len(self.data) <= MOST_PIECE:
             return [self]
         return [GivenFile(f".arn/{number}.{part}", self.data[at:at + MOST_PIECE])

@@ -5,9 +5,9 @@ import sys
 from arnlib import blocks, texts
 from arnlib.faults import FOUND, NOTHING, Fault
 
-DESCRIPTION = """Says of the lines of a session why one is `no line`, and of its blocks why one is `no asm`: at which line, which word,
-and what was expected. It doesn't run them: what is refused because of what came before, such as a file of a name that is taken, isn't
-looked for. The status is 1 where something is wrong. SESSION `-` is standard input."""
+DESCRIPTION = """Says of the lines of a session why one is `no line`, and of its blocks why one is `no asm`: at which line, which
+word, and what was expected. It doesn't run them: what is refused because of what came before, such as a file of a name that is
+taken, isn't looked for. The status is 1 where something is wrong. SESSION `-` is standard input."""
 EXAMPLE = """example:
   arn lint examples/leak/leak.session"""
 
@@ -58,8 +58,8 @@ KINDS = {
 # The lines of a session (docs/SESSION.md). A word in capitals is of a kind, any other one stands as it is.
 LINES = [line.split(" ") for line in (
     "file NAME HEX", "asm NAME", "boot NAME", "type HEX", "run RUN", "unplug NUMBER", "gen NUMBER COUNT",
-    "back LINKAGE event NUMBER NUMBER NUMBER", "back LINKAGE mem NUMBER NUMBER NUMBER NUMBER", "back LINKAGE reg NUMBER NUMBER NUMBER",
-    "back LINKAGE name NUMBER NAME NUMBER NUMBER", "forth LINKAGE NUMBER NUMBER NUMBER", "show NUMBER regs NUMBER",
+    "back LINKAGE event NUMBER NUMBER NUMBER", "back LINKAGE mem NUMBER NUMBER NUMBER NUMBER",
+    "back LINKAGE reg NUMBER NUMBER NUMBER", "back LINKAGE name NUMBER NAME NUMBER NUMBER", "forth LINKAGE NUMBER NUMBER NUMBER", "show NUMBER regs NUMBER",
     "show NUMBER mem NUMBER NUMBER NUMBER", "show NUMBER file NAME", "show NUMBER procs", "groups", "events", "verify")]
 
 

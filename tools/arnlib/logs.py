@@ -1,7 +1,7 @@
 """A log that is asked. No file is changed by it.
 
-A log that nobody uses is asked where it is. One that another question uses, that is being recorded, or that breaks off in a commit
-is asked on a copy, in a folder that only its owner can enter and that goes at the end, also at a signal.
+A log that nobody uses is asked where it is. One that another question uses, that is being recorded, or that breaks off in a
+commit is asked on a copy, in a folder that only its owner can enter and that goes at the end, also at a signal.
 """
 import contextlib
 import fcntl

@@ -146,8 +146,8 @@ def heed_signals():
 
 
 def open_streams():
-    """Opens streams that are closed: an input that is empty, an output whose reader is gone, a standard error that keeps nothing. What
-    can't be printed in the letters of the terminal is printed as an escape."""
+    """Opens streams that are closed: an input that is empty, an output whose reader is gone, a standard error that keeps nothing.
+    What can't be printed in the letters of the terminal is printed as an escape."""
     if sys.stdin is None:
         sys.stdin = open(os.devnull, encoding="utf-8")
     if sys.stdout is None:

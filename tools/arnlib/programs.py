@@ -111,7 +111,8 @@ def read_program(paths):
         if data.startswith(IMAGE):
             return checked(Program(name, data, None), paths[0])
         if not data.startswith(ELF):
-            raise Fault(f"{texts.safe(paths[0])}: this is no program of the machine: no image, no ELF file, no C source", NO_PROGRAM)
+            said = f"{texts.safe(paths[0])}: this is no program of the machine: no image, no ELF file, no C source"
+            raise Fault(said, NO_PROGRAM)
         elf = data
     return checked(Program(name, image_of(elf, paths[0]), elf), paths[0])
 

@@ -13,9 +13,9 @@ from arnlib.program import find_program
 FAULT = FAILED
 PROGRAM_WORDS = True
 MOST_ROUND, MOST_SEED = 1_000_000, 2 ** 64 - 1
-DESCRIPTION = """Runs a program of Arnold's machine on this input, and keeps all of it in a log: what came in, what was written, and
-in which order processes ran. PROGRAM is an ELF file, an image, or sources in C. What the program writes to its console, which its
-descriptors 1 and 2 both are, is copied to standard output. On a terminal a line is taken whenever a process waits for
+DESCRIPTION = """Runs a program of Arnold's machine on this input, and keeps all of it in a log: what came in, what was written,
+and in which order processes ran. PROGRAM is an ELF file, an image, or sources in C. What the program writes to its console,
+which its descriptors 1 and 2 both are, is copied to standard output. On a terminal a line is taken whenever a process waits for
 one, and Ctrl-D ends the input.
 
 The last line on standard error says how it ended. The status is that of the first process, or one of these:
@@ -23,15 +23,17 @@ The last line on standard error says how it ended. The status is that of the fir
   125  arn itself fails: words, a log that is there already, the compiler, a full log, the program arnold
   126  PROGRAM is no program of the machine
   127  there is no PROGRAM
-  129, 130, 141, 143  the terminal went, Ctrl-C, standard output was closed, SIGTERM: the line at hand is ended first, at a second
-       Ctrl-C it isn't; `arn resume LOG` runs it on"""
-EXAMPLE = """The program's words stand behind `--`. `--json` makes the last line of standard error an object: how (exit, fault,
-signal, waits, most, interrupted, closed, failed), status, said, and where there is a log: program, instructions, events, log; of a
-fault also moment, reason, where; of a signal also signal.
+  129, 130, 141, 143  the terminal went, Ctrl-C, standard output was closed, SIGTERM: what runs is ended where it next writes, or
+       after 20,000,000 instructions, and at a second signal at once; `arn resume LOG` runs it on"""
+EXAMPLE = """The program's words stand behind `--`.
 
-`--try N` records under --random with the seeds S to S + N - 1, groups the recordings by what was written to the console and the
-status, and prints of each group how many they are and the first seed, whose log it keeps as NAME.seedS.log. Its status is 0 where all
-are one group, and 1 where there are several. `arn diff LOG LOG` then finds the first call at which two of them differ.
+With --json the last line of standard error is an object. It has how (exit, fault, signal, waits, most, interrupted, closed or
+failed), status and said; where there is a log, program, instructions, events and log; of a fault, moment, reason and where; of a
+signal, signal.
+
+`--try N` records under --random with the seeds S to S + N - 1. It groups the recordings by what was written to the console and
+how they ended, prints of each group how many they are and the first seed, and keeps that one's log as NAME.seedS.log. The status
+is 0 where all are one group, 1 where there are several. `arn diff LOG LOG` then finds the first call at which two of them differ.
 
 examples:
   echo 'ann opensesame' | arn record examples/leak/hello.img
@@ -44,7 +46,7 @@ def add_words(parser):
     parser.add_argument("--env", action="append", default=[], metavar="NAME=VALUE", help="a variable of the environment")
     add_chooser(parser)
     parser.add_argument("--try", dest="tries", metavar="N", help="records N times in random orders, and tells what differs")
-    parser.add_argument("--by-process", action="store_true", help="with --try: compares what each process wrote, in whatever order")
+    parser.add_argument("--by-process", action="store_true", help="with --try: compares what each process wrote, in any order")
     parser.add_argument("programs", nargs="+", metavar="PROGRAM", help="an ELF file, an image, or sources in C")
 
 
@@ -192,8 +194,8 @@ def locked(log):
 
 
 class Prepared(NamedTuple):
-    """What a recording is made of: the program `arnold` and its words, the session's lines up to the boot, the program's name, its ELF
-    files, and the descriptor of a terminal that is typed on, or None."""
+    """What a recording is made of: the program `arnold` and its words, the session's lines up to the boot, the recorded program's
+    name, its ELF files, and the descriptor of a terminal that is typed on, or None."""
     arnold: str
     words: list
     lines: list
@@ -231,8 +233,8 @@ def made_as(wanted, options, log, words=(), collected=None):
         if wanted.kept:
             symbols.keep(log, wanted.kept)
         with locked(log):
-            return recording.conduct(wanted.arnold, log, [*wanted.words, *words], options, wanted.lines, wanted.name, wanted.typed,
-                                     collected)
+            all_words = [*wanted.words, *words]
+            return recording.conduct(wanted.arnold, log, all_words, options, wanted.lines, wanted.name, wanted.typed, collected)
     finally:
         drop_if_empty(log)
 

@@ -63,8 +63,8 @@ class Progress:
 
 
 class Recording:
-    """The program while it records. `most` is how many instructions it runs at most. `collected` is a list that gets what is written
-    to the console; it is copied to standard output where that is None."""
+    """The program while it records. `most` is how many instructions it runs at most. `collected` is a list that gets what is
+    written to the console; it is copied to standard output where that is None."""
 
     def __init__(self, program, log, words, most, collected=None):
         self.collected = collected
@@ -123,7 +123,8 @@ class Recording:
         return int(words[1]), words[2]
 
     def leave_line(self):
-        """Ends a line before its end: the program ends where it next prints, and all until then is in the log, which is asked anew."""
+        """Ends a line before its end: the program ends where it next prints. What ran until then is in the log, which is asked
+        anew."""
         self.dialogue.close()
         self.dialogue = Dialogue(self.program, self.log)
         return 0, "left"

@@ -7,9 +7,9 @@ from arnlib.faults import FAILED, Fault
 from arnlib.program import find_program
 
 FAULT = FAILED
-DESCRIPTION = """Goes on with a recording that was ended before its program ended: by Ctrl-C, by --most, or by a stop of the computer.
-What is told and the status are as those of `arn record`. How processes take turns isn't kept in the log: give --round or --random
-again where the recording had it."""
+DESCRIPTION = """Goes on with a recording that was ended before its program ended: by Ctrl-C, by --most, or by a stop of the
+computer. What is told and the status are as those of `arn record`. How processes take turns isn't kept in the log: give --round
+or --random again where the recording had it."""
 EXAMPLE = """example:
   arn record --most 100 examples/leak/hello.img < examples/leak/leak.session
   arn resume hello.log"""
