@@ -1,6 +1,6 @@
 """arn events: what happened, as strace does."""
 import history_calls
-from arnlib import asking, calls, past, places, symbols, targets, texts
+from arnlib import asking, calls, places, symbols, targets, texts
 from arnlib.faults import FOUND, NOTHING, say
 
 DESCRIPTION = """Lists what happened: calls with their arguments and results, signals, ends. Arguments aren't in the log: they are
@@ -32,14 +32,6 @@ def asked_registers(log, history, options):
     return registers
 
 
-def where_called(log, programs, event):
-    """Where the call of an event was made, with the calls above; None where that isn't known."""
-    if event.kind != "call" or programs.elf(event.process, event.number) is None:
-        return None
-    address, _ = past.Past(log, event.moment - 1, event.process).registers
-    return programs.calls(log, event.process, event.number, event.moment - 1, address)
-
-
 def print_event(options, event, registers, where):
     """Prints an event."""
     line = calls.line(event, registers.get(event.number))
@@ -58,6 +50,6 @@ def run(options):
         launched, is_found = -1 if options.launch else places.launch(history), False
         for event in history.events:
             if event.number > launched and options.pid in (None, event.process):
-                print_event(options, event, registers, where_called(log, programs, event) if options.calls else None)
+                print_event(options, event, registers, programs.called_at(log, event) if options.calls else None)
                 is_found = True
     return FOUND if is_found else NOTHING

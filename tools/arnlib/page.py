@@ -6,8 +6,9 @@ import os
 import sys
 
 import arnold_log
+import history_calls
 import history_data
-from arnlib import asking, places
+from arnlib import asking, places, symbols
 from arnlib.faults import FOUND, Fault
 from arnlib.program import HERE
 
@@ -55,6 +56,16 @@ def outputs_of(history, options):
     return set(written[-options.most:] if options.most else ())
 
 
+def add_places(log, history, options, data):
+    """Adds to each event of the page where its call was made, where arguments of calls are asked for."""
+    cost = history_calls.cost_of_arguments(history)
+    programs = symbols.Programs(options.log, history)
+    if options.arguments == "yes" or options.arguments == "auto" and cost <= history_data.MOST_FOR_ARGUMENTS:
+        for event, made in zip(history.events, data["events"]):
+            if where := programs.called_at(log, event):
+                made["c"] = where
+
+
 def run(options):
     script = page_script()
     with asking.opened(options) as log:
@@ -63,6 +74,7 @@ def run(options):
         options.most = options.most if options.outputs else 0
         try:
             data = history_data.page_data(history, asking.Answers(log), options.log, options, script.report)
+            add_places(log, history, options, data)
         except arnold_log.Fault as fault:
             raise Fault(str(fault)) from None
     sys.stdout.buffer.write(script.page_of(data).encode("utf-8", "replace"))

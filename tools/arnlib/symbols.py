@@ -291,6 +291,13 @@ class Programs:
             return f"at {address:#x}"
         return " < ".join([place.text for place in places] + ([] if is_whole else [".."]))
 
+    def called_at(self, log, event):
+        """Where the call of an event was made, with the calls above; None where that isn't known."""
+        if event.kind != "call" or self.elf(event.process, event.number) is None:
+            return None
+        address, _ = Past(log, event.moment - 1, event.process).registers
+        return self.calls(log, event.process, event.number, event.moment - 1, address)
+
     def place_of(self, log, number):
         """The innermost place outside the library from which an event's call was made, in a few words; None where it isn't known."""
         if number not in self.kept_places:

@@ -162,6 +162,7 @@ function factsOf(event) {
     ["process", event.p === undefined ? "none: it came from outside" : `${event.p}, of group ${event.g}`],
     ["what", `${whatOf(event)}${event.a ? " " + event.a : ""}`],
     ["result", event.r],
+    ["called at", event.c],
     ["bytes", event.n.toLocaleString("en")],
   ].filter(([, text]) => text);
 }
