@@ -97,7 +97,7 @@ def in_event(piece):
 
 
 def as_place(stretch, first, last):
-    """Bytes of an input or of a sink for a JSON object: its word, the first and the last, the line, and which bytes of events they are."""
+    """Bytes of an input or of a sink for a JSON object: its word, the first and the last, the line, the bytes of events."""
     made = {"name": stretch.name, "from": first, "to": last, "bytes": as_bytes(stretch.ranges(first, last - first + 1))}
     if sources.has_lines(stretch):
         made["line"] = places.line_of(stretch.data, first)[0]

@@ -9,8 +9,8 @@ ERRORS = {2: "ENOENT", 3: "ESRCH", 4: "EINTR", 5: "EIO", 8: "ENOEXEC", 9: "EBADF
           14: "EFAULT", 17: "EEXIST", 19: "ENODEV", 22: "EINVAL", 24: "EMFILE", 32: "EPIPE", 38: "ENOSYS", 98: "EADDRINUSE",
           111: "ECONNREFUSED"}
 # How many arguments are shown of each call, behind a path or bytes.
-COUNTS = {"exit": 1, "kill": 2, "sigaction": 2, "close": 1, "seek": 2, "dup": 1, "listen": 1, "connect": 1, "accept": 1, "device": 1,
-          "wait": 1}
+COUNTS = {"exit": 1, "kill": 2, "sigaction": 2, "close": 1, "seek": 2, "dup": 1, "listen": 1, "connect": 1, "accept": 1,
+          "device": 1, "wait": 1}
 
 
 def signed(number):
@@ -61,7 +61,8 @@ def line(event, registers):
     if event.kind == "call":
         return f"{event.process} {event.what}({arguments(event, registers)}) = {result(event)}"
     if event.kind == "signal":
-        return f"{event.process} signal {event.signal}" + (f", ended with status {event.status}" if event.status is not None else "")
+        ended = f", ended with status {event.status}" if event.status is not None else ""
+        return f"{event.process} signal {event.signal}{ended}"
     if event.kind == "end":
         return f"{event.process} fault, ended with status {event.status}"
     if event.kind == "boot":

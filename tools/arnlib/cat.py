@@ -4,7 +4,8 @@ import sys
 from arnlib import asking, files, targets, texts
 from arnlib.faults import FOUND, Fault
 
-DESCRIPTION = "Prints the bytes of a file as they were at a moment, when so many instructions had run. Without a moment: at the end."
+DESCRIPTION = """Prints the bytes of a file as they were at a moment, when so many instructions had run. Without a moment: at the
+end."""
 EXAMPLE = asking.MADE + """
   tools/arn cat hello.log hello > hello.copy    the file of the program itself"""
 

@@ -2,8 +2,8 @@
 from arnlib import asking, past, places, targets, texts
 from arnlib.faults import FOUND, NOTHING, Fault
 
-DESCRIPTION = """Lists the files that had a name at a moment, when so many instructions had run, with their lengths. Without a moment: at the
-end. The status is 1 where there is none."""
+DESCRIPTION = """Lists the files that had a name at a moment, when so many instructions had run, with their lengths. Without a
+moment: at the end. The status is 1 where there is none."""
 EXAMPLE = asking.MADE + """
   tools/arn files hello.log --at 100    the files when 100 instructions had run"""
 

@@ -4,9 +4,9 @@ from typing import NamedTuple
 from arnlib import asking, past, show, symbols, targets
 from arnlib.faults import FOUND, NOTHING, Fault
 
-DESCRIPTION = """Finds the moment at which a byte or a global variable of a process last changed, and what changed it: the instruction, the calls
-above, the event. It looks at few moments, by halving: an earlier or a later write of the same value may stand between. The status is 1
-where no change is seen."""
+DESCRIPTION = """Finds the moment at which a byte or a global variable of a process last changed, and what changed it: the
+instruction, the calls above, the event. It looks at few moments, by halving: an earlier or a later write of the same value may
+stand between. The status is 1 where no change is seen."""
 EXAMPLE = asking.MADE + """
   tools/arn last hello.log 1 0x102d8             what last changed the byte at this address
   tools/arn last hello.log 1 0x102d8 --at 300    the same, as it was when 300 instructions had run"""
@@ -26,7 +26,7 @@ def add_words(parser):
     asking.add_log(parser)
     parser.add_argument("pid", metavar="PID", type=targets.number)
     parser.add_argument("place", metavar="ADDRESS|VARIABLE")
-    parser.add_argument("--at", metavar="MOMENT", type=targets.number, help="as it was at this moment; at its end where it isn't given")
+    parser.add_argument("--at", metavar="MOMENT", type=targets.number, help="as it was at this moment; else at its end")
 
 
 def life(history, pid):
@@ -44,8 +44,8 @@ def life(history, pid):
 
 def begun(programs, pid, history, first, last):
     """The first moment at which a process ran the program that it ran last."""
-    return max([first, *(history.events[number].moment for number, *_ in programs.begun.get(pid, ()) if history.events[number].moment <= last
-                         and history.events[number].process == pid)])
+    started = (history.events[number] for number, *_ in programs.begun.get(pid, ()))
+    return max([first, *(event.moment for event in started if event.moment <= last and event.process == pid)])
 
 
 def last_change(look, first, last):
@@ -95,8 +95,8 @@ def print_change(options, change):
     """Prints a change. Of many bytes those that changed are told."""
     event = change.event
     if options.json:
-        asking.print_object(moment=change.moment, before=change.before.hex(), after=change.after.hex(), pc=change.place, where=change.where,
-                            event=event.number if event else None)
+        asking.print_object(moment=change.moment, before=change.before.hex(), after=change.after.hex(), pc=change.place,
+                            where=change.where, event=event.number if event else None)
         return
     first, before, after = differing(change) if len(change.before) > show.MOST_SHOWN else (None, change.before, change.after)
     of = "" if first is None else f"from byte {first} on, "

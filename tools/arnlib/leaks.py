@@ -2,9 +2,9 @@
 from arnlib import asking, places, reach, sources, targets, texts
 from arnlib.faults import UNASKED, Fault
 
-DESCRIPTION = """Says whether an input reached an output, for a test. The status is 0 only if the input is there, the output is known, the
-run has ended, and no byte of the one reached the other; 1 with each flow; 2 with a line that says why it can't be said. Branches
-aren't followed: what a program decides by a byte isn't a flow of that byte."""
+DESCRIPTION = """Says whether an input reached an output, for a test. The status is 0 only if the input is there, the output is
+known, the run has ended, and no byte of the one reached the other; 1 with each flow; 2 with a line that says why it can't be
+said. Branches aren't followed: what a program decides by a byte isn't a flow of that byte."""
 EXAMPLE = """TEXT is looked for in all that came in: input, files, arguments, variables, devices; not in programs.
 
 """ + asking.MADE + """
@@ -19,7 +19,7 @@ def add_words(parser):
     asking.add_log(parser)
     parser.add_argument("--from", dest="source", metavar="TEXT|E:FROM-TO", required=True, help="the input")
     parser.add_argument("--to", dest="sink", metavar="SINK", required=True, help="console, file:NAME, device:N or event:E")
-    parser.add_argument("--text", action="store_true", help="the word of --from is a text, also where it looks like bytes of an event")
+    parser.add_argument("--text", action="store_true", help="--from is a text, also where it looks like bytes of an event")
     parser.add_argument("--linkage", choices=sources.LINKAGES, default="data", help="data where it isn't given")
     parser.add_argument("--open", action="store_true", help="also of a run that hasn't ended")
 
@@ -70,5 +70,6 @@ def run(options):
                     reach.print_flow(options, flow)
                     is_leak = True
     if not options.json:
-        print(f"{'it reaches' if is_leak else 'nothing reaches'} {texts.safe(options.sink)}, by {options.linkage}; branches aren't followed")
+        said = "it reaches" if is_leak else "nothing reaches"
+        print(f"{said} {texts.safe(options.sink)}, by {options.linkage}; branches aren't followed")
     return LEAKS if is_leak else CLEAN

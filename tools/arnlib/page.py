@@ -12,8 +12,8 @@ from arnlib import asking, places, symbols
 from arnlib.faults import FOUND, Fault
 from arnlib.program import HERE
 
-DESCRIPTION = """Prints one page of a log for a browser: its events as a timeline, what groups of processes exchanged, and outputs with the
-input bytes that they came from (tools/README.md). The page opens from disk, and loads nothing."""
+DESCRIPTION = """Prints one page of a log for a browser: its events as a timeline, what groups of processes exchanged, and outputs
+with the input bytes that they came from (tools/README.md). The page opens from disk, and loads nothing."""
 EXAMPLE = asking.MADE + """
   tools/arn page hello.log > hello.html"""
 
@@ -21,10 +21,10 @@ EXAMPLE = asking.MADE + """
 def add_words(parser):
     asking.add_log(parser, has_json=False)
     parser.add_argument("--linkage", choices=("copy", "data", "index"), default="copy", help="copy where it isn't given")
-    parser.add_argument("--outputs", metavar="N,N,..", type=numbers, help="the outputs whose sources are asked for, by event number")
+    parser.add_argument("--outputs", metavar="N,N,..", type=numbers, help="outputs whose sources are asked for, by event number")
     parser.add_argument("--most", metavar="N", type=count, default=100, help="else the last N outputs; 100 where it isn't given")
-    parser.add_argument("--ways", choices=("yes", "no", "auto"), default="auto", help="whether the events on the way are asked for as well")
-    parser.add_argument("--arguments", choices=("yes", "no", "auto"), default="auto", help="whether arguments of calls are asked for")
+    parser.add_argument("--ways", choices=("yes", "no", "auto"), default="auto", help="whether events on the way are asked for")
+    parser.add_argument("--arguments", choices=("yes", "no", "auto"), default="auto", help="whether calls' arguments are asked for")
     parser.add_argument("--bytes", metavar="N", type=count, default=256, help="how many bytes of each event the page has, 256")
 
 

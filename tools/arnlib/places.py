@@ -1,10 +1,9 @@
 """Where bytes are in a history: what came in, and what each sink holds.
 
-A *place* is an event and a byte of it. A sink is the console, a file or a device. What it holds is the bytes of all writes to it put
-together, each with its place.
+A *place* is an event and a byte of it. A sink is the console, a file or a device. What it holds is the bytes of all writes to it
+put together, each with its place.
 """
 import bisect
-import functools
 import struct
 from typing import NamedTuple
 
@@ -69,7 +68,7 @@ class Stretch:
 
 
 class Content:
-    """A file's bytes as its writes left them. `written` are the stretches that were written: begin, end, event, first byte of it."""
+    """A file's bytes as its writes left them. `written` is what was written: of each begin, end, event, and first byte of that."""
 
     def __init__(self, given=b""):
         self.data, self.written = bytearray(given), []
@@ -124,8 +123,10 @@ def sinks(history):
         if event.did == "put":
             if event.file not in contents:
                 contents[event.file] = Content(given[event.file].data if event.file < len(given) else b"")
-            put = contents[event.file].give if event.number <= launched else functools.partial(contents[event.file].put, event.number)
-            put(event.place, event.data)
+            if event.number <= launched:
+                contents[event.file].give(event.place, event.data)
+            else:
+                contents[event.file].put(event.number, event.place, event.data)
         elif event.did in ("console", "sent"):
             word = "console" if event.did == "console" else f"device:{event.device}"
             found.setdefault(word, Stretch(word)).add(event.number, event.data)
@@ -180,7 +181,7 @@ def wholes(history):
 
 
 def started_with(image):
-    """The words and the variables that the launcher hands over: of each what it is called, its place in the image, and its bytes."""
+    """The words and the variables that the launcher hands over: of each what it is called, its place in the image, its bytes."""
     begin = image.rfind(BLOCK_NAME)
     if begin < 0 or begin + BLOCK_TEXTS > len(image):
         return
@@ -200,7 +201,8 @@ def is_program(data):
 
 
 class Inputs:
-    """What came in. `stretches` are by their words: `input`, `file:NAME`, `program:NAME`, `argument:N`, `variable:NAME`, `device:N`.
+    """What came in. `stretches` are by their words: `input`, `file:NAME`, `program:NAME`, `argument:N`, `variable:NAME`,
+    `device:N`.
 
     Typed bytes and the pieces of a recorded input are one input. What the launcher reads beside these is none.
     """
@@ -246,7 +248,7 @@ class Inputs:
                 self.of[event.number] = [(0, event.length, stretch, event.place)]
 
     def find(self, event, at):
-        """The stretch that a byte of an event is in, and how far its place there is from that in the event; None where it is in none."""
+        """The stretch that a byte of an event is in, and how far its place there is from that in the event; None for no stretch."""
         return next(((stretch, offset) for first, end, stretch, offset in self.of.get(event, ()) if first <= at < end), None)
 
     def given(self):

@@ -4,9 +4,9 @@ from typing import NamedTuple
 from arnlib import asking, places, sources, targets, texts
 from arnlib.faults import FOUND, NOTHING, UNASKED, Fault
 
-DESCRIPTION = """Says which outputs some bytes of an input reached: the console, files, devices. The bytes are those of a text in what
-came in (each place of it), or bytes of an event. The linkage says which instructions pass bytes on (docs/LINEAGE.md): what a program
-decides by a byte isn't followed. The status is 1 where they reached nothing."""
+DESCRIPTION = """Says which outputs some bytes of an input reached: the console, files, devices. The bytes are those of a text in
+what came in (each place of it), or bytes of an event. The linkage says which instructions pass bytes on (docs/LINEAGE.md): what
+a program decides by a byte isn't followed. The status is 1 where they reached nothing."""
 EXAMPLE = asking.MADE + """
   tools/arn reach hello.log battery9    which outputs these bytes of the input reached"""
 
@@ -15,7 +15,7 @@ NEAR = 4096
 
 
 class Flow(NamedTuple):
-    """Bytes of an output that bytes of an input reached: of both the stretch; the first and the last byte; and spans of the input."""
+    """Bytes of an output that bytes of an input reached: of both the stretch; the first and the last byte; spans of the input."""
     source: places.Stretch
     spans: list
     sink: places.Stretch
@@ -29,13 +29,14 @@ class Wanted(NamedTuple):
     spans: list
 
     def asked(self):
-        """What lines ask for: of each the event, the first byte, how many, and how far these are from their places in the stretch."""
+        """What lines ask for: of each the event, the first byte, how many, and how far they are from their places in the stretch."""
         made = []
         for first, last in self.spans:
             at = first
             for piece in self.stretch.ranges(first, last - first + 1):
                 offset, end = at - piece.first, piece.first + piece.length
-                if made and made[-1][0] == piece.event and piece.first < made[-1][2] + NEAR and end - made[-1][1] <= sources.MOST_RANGE:
+                is_near = made and made[-1][0] == piece.event and piece.first < made[-1][2] + NEAR
+                if is_near and end - made[-1][1] <= sources.MOST_RANGE:
                     made[-1][2] = max(made[-1][2], end)
                 else:
                     made += [[piece.event, piece.first + some, piece.first + some + count, offset]

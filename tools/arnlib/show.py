@@ -2,8 +2,9 @@
 from arnlib import asking, past, symbols, targets, texts
 from arnlib.faults import FOUND, Fault
 
-DESCRIPTION = """Shows a process as it was at a moment, when so many instructions had run: where it stood and the calls above, its registers,
-the global variables of its own sources; or memory or a variable that is asked for. Without a process: those that lived then, and where each stood."""
+DESCRIPTION = """Shows a process as it was at a moment, when so many instructions had run: where it stood and the calls above, its
+registers, the global variables of its own sources; or memory or a variable that is asked for. Without a process: those that
+lived then, and where each stood."""
 EXAMPLE = asking.MADE + """
   tools/arn show hello.log 300                       which processes lived, and where each stood
   tools/arn show hello.log 300 1                     all of process 1
@@ -44,7 +45,7 @@ def shown_memory(seen, address, length):
 
 
 def variables(seen, elf):
-    """The global variables with their addresses and bytes. What isn't in the window, as a linker's symbol may be, is passed over."""
+    """The global variables with their addresses and bytes. What isn't in the window is passed over, as a linker's symbol may be."""
     for name, (address, length) in sorted(elf.own_variables().items() if elf else (), key=lambda one: one[1]):
         if not name.startswith("_") and 0 < length <= LONGEST and (data := seen.in_window(address, length)) is not None:
             yield name, address, data

@@ -38,7 +38,8 @@ class Run(NamedTuple):
 
     def wanted(self):
         """All its source bytes: of each the word of the stretch, and its place."""
-        return {(one.stretch.name, at) for one in self.ranges for first, last in (one.span(self.length),) for at in range(first, last + 1)}
+        spans_of = [(one.stretch.name, *one.span(self.length)) for one in self.ranges]
+        return {(word, at) for word, first, last in spans_of for at in range(first, last + 1)}
 
 
 def ranges_of(found):

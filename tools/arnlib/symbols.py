@@ -1,4 +1,4 @@
-"""C's names for addresses: functions, files and lines, the calls above, and global variables, from the ELF files that a recording kept."""
+"""C's names for addresses, from the ELF files that a recording kept: functions, files and lines, the calls above, variables."""
 import bisect
 import hashlib
 import json
@@ -170,7 +170,7 @@ def place_of(function, place):
 
 
 def frames_in(said):
-    """The functions of which readelf says how their frames are: where each begins and ends, and its frames from which address on."""
+    """The functions of which readelf says how their frames are: where each begins and ends, and its frames, each from where on."""
     function, columns = None, []
     for words in map(str.split, said.splitlines()):
         if "FDE" in words or "CIE" in words:
@@ -191,8 +191,9 @@ def frame_of(base, kept):
     match = re.fullmatch("([a-z0-9]+)([+-][0-9]+)", base)
     if not match or match[1] not in REGISTERS:
         return None
-    places = {REGISTERS[name]: int(word[1:]) for name, word in kept.items() if name in REGISTERS and re.fullmatch("c[+-][0-9]+", word)}
-    return Frame(REGISTERS[match[1]], int(match[2]), places)
+    places = {name: int(word[1:]) for name, word in kept.items() if re.fullmatch("c[+-][0-9]+", word)}
+    known = {REGISTERS[name]: place for name, place in places.items() if name in REGISTERS}
+    return Frame(REGISTERS[match[1]], int(match[2]), known)
 
 
 def elf_of(log, name, image):
@@ -273,8 +274,8 @@ class Programs:
         return name or f"at {address:#x}"
 
     def places(self, log, process, event, moment):
-        """The places at which a process stood at a moment, before an event: that of its instruction, then those of the calls above; and
-        whether these are all. `log` is anything that has `ask`."""
+        """The places at which a process stood at a moment, before an event: that of its instruction, then those of the calls above;
+        and whether these are all. `log` is anything that has `ask`."""
         elf = self.elf(process, event)
         if elf is None:
             return [], False
@@ -299,7 +300,7 @@ class Programs:
         return self.calls(log, event.process, event.number, event.moment - 1, address)
 
     def place_of(self, log, number):
-        """The innermost place outside the library from which an event's call was made, in a few words; None where it isn't known."""
+        """The innermost place outside the library from which an event's call was made, in a few words; None where none is known."""
         if number not in self.kept_places:
             event = self.events[number]
             places = self.places(log, event.process, number, event.moment - 1)[0] if event.kind == "call" else []

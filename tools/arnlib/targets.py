@@ -7,13 +7,13 @@ from arnlib.faults import Fault
 
 EVENT = re.compile(r"(\d+):(\d+)(?:-(\d+))?")
 RANGE = re.compile(r"(.+):(\d+)-(\d+)")
-NAMES = ["zero", "ra", "sp", "gp", "tp", "t0", "t1", "t2", "s0", "s1", *(f"a{k}" for k in range(8)), *(f"s{k}" for k in range(2, 12)),
-         *(f"t{k}" for k in range(3, 7))]
+NAMES = ["zero", "ra", "sp", "gp", "tp", "t0", "t1", "t2", "s0", "s1", *(f"a{k}" for k in range(8)),
+         *(f"s{k}" for k in range(2, 12)), *(f"t{k}" for k in range(3, 7))]
 REGISTERS = {**{name: number for number, name in enumerate(NAMES)}, **{f"x{number}": number for number in range(32)}, "fp": 8}
 
 
 class Part(NamedTuple):
-    """A part of a target that a line asks for: how many bytes, and the words of a `back` line for so many of them from a place on."""
+    """A part of a target that a line asks for: how many bytes; the words of a `back` line for so many of them from a place on."""
     length: int
     words: Callable
 
@@ -69,8 +69,9 @@ def of_event(history, number, first, last):
 
 def of_pieces(pieces, data):
     """Bytes of one event or of several, one behind the other."""
-    parts = tuple(Part(piece.length, lambda at, count, piece=piece: f"event {piece.event} {piece.first + at} {count}") for piece in pieces)
-    return Target("", parts, data, tuple(pieces))
+    def words(piece):
+        return lambda at, count: f"event {piece.event} {piece.first + at} {count}"
+    return Target("", tuple(Part(piece.length, words(piece)) for piece in pieces), data, tuple(pieces))
 
 
 def in_words(history, word):
@@ -119,7 +120,8 @@ def one_part(name, length, words):
 
 def of_memory(moment, pid, name, address, length):
     """Bytes of a process's memory."""
-    return one_part(f"{name} of process {pid} at moment {moment}", length, lambda at, count: f"mem {moment} {pid} {address + at:#x} {count}")
+    return one_part(f"{name} of process {pid} at moment {moment}", length,
+                    lambda at, count: f"mem {moment} {pid} {address + at:#x} {count}")
 
 
 def of_register(moment, pid, name):

@@ -12,7 +12,7 @@ MOST_FOLLOWED = 500_000_000
 
 
 class Ways:
-    """Asks for the ways in a log. `inputs` is where bytes came in, and what came before the event `launched` is no step of a way."""
+    """Asks for the ways in a log. `inputs` is where bytes came in. What came before the event `launched` is no step of a way."""
 
     def __init__(self, log, history, inputs, launched):
         self.log, self.events, self.inputs, self.launched = log, history.events, inputs, launched
@@ -62,12 +62,13 @@ class Ways:
         return self.events[number].is_input or number <= self.launched
 
     def carried(self, linkage, receipt, wanted, places):
-        """Of each event of which a receipt has some of the wanted source bytes, which these are. `places` are the same, by their words."""
+        """Of each event of which a receipt has some of the wanted source bytes, which these are. `places` has the same by words."""
         found = {}
         for number, place, length in receipt.origins:
             if self.is_outside(number):
                 stretch, offset = self.inputs.find(number, place) or (None, 0)
-                here = {(stretch.name, at) for at in within(places.get(stretch.name, ()), place + offset, length)} if stretch else ()
+                sought = places.get(stretch.name, ()) if stretch else ()
+                here = {(stretch.name, at) for at in within(sought, place + offset, length)}
             else:
                 given = self.sources(linkage, number)
                 here = {one for at in range(place, place + length) for one in given.get(at, ())} & wanted
@@ -76,8 +77,8 @@ class Ways:
         return found
 
     def step(self, linkage, event, wanted):
-        """How the wanted bytes came to an event's group: of each receipt, or of the fork that began the group, which of them it had; and
-        the events in front of these, with the bytes that are wanted of them."""
+        """How the wanted bytes came to an event's group: of each receipt, or of the fork that began the group, which of them it had;
+        and the events in front of these, with the bytes that are wanted of them."""
         layer, before, places = {}, {}, by_words(wanted)
         for receipt in self.receipts(event):
             for number, here in self.carried(linkage, receipt, wanted, places).items():
@@ -92,7 +93,7 @@ class Ways:
         return layer, before
 
     def to(self, linkage, number, wanted):
-        """The way of source bytes to an event: steps, each the events that are one of it or all of it, and whether it is one of them."""
+        """The way of source bytes to an event: steps, each some events, and whether the way is by one of these alone."""
         steps, after, seen = [], {number: wanted}, set()
         while after:
             layer, before = {}, {}

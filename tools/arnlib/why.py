@@ -5,13 +5,13 @@ from typing import NamedTuple
 from arnlib import asking, places, sources, symbols, targets, texts, ways
 from arnlib.faults import FOUND, NOTHING, Fault, say
 
-DESCRIPTION = """Says which input bytes some bytes came from: those of a text in what the program wrote, those of an event, or those of
-memory, of a variable, of a register or of a file at a moment. Each byte is asked by the linkage `copy`; bytes without a source by
-`data`, then by `index` (docs/LINEAGE.md). Each answer names the events by which the bytes came, and where in the program their calls
-were made. The status is 1 where no byte came from an input."""
-EXAMPLE = """Without a moment, FROM and TO are the first and the last byte of an event. TEXT has C's escapes. `--json` prints an object for each run of
-bytes whose sources go on together: of, from, to, bytes (of events), hex, text, linkage, sources; of each source name, from, to, step,
-bytes, line, hex, text, way.
+DESCRIPTION = """Says which input bytes some bytes came from: those of a text in what the program wrote, those of an event, or
+those of memory, of a variable, of a register or of a file at a moment. Each byte is asked by the linkage `copy`; bytes without
+a source by `data`, then by `index` (docs/LINEAGE.md). Each answer names the events by which the bytes came, and where in the
+program their calls were made. The status is 1 where no byte came from an input."""
+EXAMPLE = """FROM and TO are the first and the last byte of an event. TEXT has C's escapes. `--json` prints an object for each run of
+bytes whose sources go on together: of, from, to, bytes (of events), hex, text, linkage, sources; of each source name, from, to,
+step, bytes, line, hex, text, way.
 
 """ + asking.MADE + """
   tools/arn why hello.log battery9                             where this text in the output came from
@@ -21,7 +21,7 @@ bytes, line, hex, text, way.
 
 
 class Answer(NamedTuple):
-    """A run of a target's bytes, the linkage that found its sources, and the way of each of their ranges; no ways where none are asked."""
+    """A run of a target's bytes, the linkage that found its sources, and the way of each of their ranges, where ways are asked."""
     linkage: str
     run: sources.Run
     steps: tuple
@@ -34,7 +34,7 @@ def add_words(parser):
     parser.add_argument("--all", action="store_true", help="each place of the text, not the last one alone")
     parser.add_argument("--linkage", choices=sources.LINKAGES, help="ask by this linkage alone")
     parser.add_argument("--ways", choices=("yes", "no", "auto"), default="auto",
-                        help=f"whether the events on the way are told; auto: where at most {ways.MOST_FOLLOWED:,} instructions run again")
+                        help=f"whether the events on the way are told; auto: where at most {ways.MOST_FOLLOWED:,} instructions run")
     parser.add_argument("--at", metavar="MOMENT", type=targets.number, help="what is asked is as it was at this moment")
     parser.add_argument("--pid", metavar="P", type=targets.number, help="of this process")
     parser.add_argument("--mem", metavar="ADDRESS+LEN", help="so many bytes of its memory")
@@ -80,14 +80,16 @@ def answers_of(asked, target, linkages, follows):
 
 
 def ways_of(asked, target, linkage, run):
-    """The way of each range of a run's sources to the last event that the run is in. Bytes of programs are in each process: they have none."""
+    """The way of each range of a run's sources to the last event that the run is in. Bytes of programs have none: each process has
+    them."""
     made = []
     for one in run.ranges[:sources.MOST_RANGES]:
         if one.stretch.name.startswith("program:"):
             made.append([])
             continue
         wanted = sources.Run(run.first, run.last, (one,)).wanted()
-        made.append([step for piece in target.within(run.first, run.last)[-1:] for step in asked.ways.to(linkage, piece.event, wanted)])
+        last = target.within(run.first, run.last)[-1].event
+        made.append(asked.ways.to(linkage, last, wanted))
     return tuple(made)
 
 
