@@ -7,7 +7,9 @@ from arnlib.faults import FOUND, NOTHING
 DESCRIPTION = """Finds the first call, by process, at which two recordings differ: in its number, its result or its bytes. Where
 no process differs, it finds the first place at which the same calls came in another order. The status is 1 where they differ."""
 EXAMPLE = """example:
-  arn diff race.seed1.log race.seed2.log"""
+  echo 'ann opensesame' | tools/arn record -o one.log examples/leak/hello.img
+  echo 'eve opensesame' | tools/arn record -o two.log examples/leak/hello.img
+  tools/arn diff one.log two.log    where the greeting differs"""
 
 
 def add_words(parser):

@@ -9,7 +9,7 @@ DESCRIPTION = """Says of the lines of a session why one is `no line`, and of its
 word, and what was expected. It doesn't run them: what is refused because of what came before, such as a file of a name that is
 taken, isn't looked for. The status is 1 where something is wrong. SESSION `-` is standard input."""
 EXAMPLE = """example:
-  arn lint examples/leak/leak.session"""
+  tools/arn lint examples/leak/leak.session"""
 
 LONGEST, MOST, MOST_RUN, MOST_GENERATED = 1_048_576, 2 ** 64, 1_000_000_000, 32
 LINKAGES = "copy, data or index"

@@ -36,9 +36,9 @@ COMMANDS = {
 
 DESCRIPTION = "Records programs, and says of any byte which input bytes it came from."
 EXAMPLE = """examples:
-  echo 'ann opensesame' | arn record examples/leak/hello.img    runs a program, and keeps all of it in hello.log
-  arn why hello.log ann                                         says where this text in the output came from
-  arn why --help                                                says more about one subcommand"""
+  echo 'maximilianus battery9' | tools/arn record examples/leak/hello.img    runs a program, and keeps all of it in hello.log
+  tools/arn why hello.log battery9    says where this text in the output came from
+  tools/arn why --help                says more about one subcommand"""
 
 
 class Parser(argparse.ArgumentParser):

@@ -36,8 +36,8 @@ how they ended, prints of each group how many they are and the first seed, and k
 is 0 where all are one group, 1 where there are several. `arn diff LOG LOG` then finds the first call at which two of them differ.
 
 examples:
-  echo 'ann opensesame' | arn record examples/leak/hello.img
-  echo 'ann opensesame' | arn record --try 5 examples/leak/hello.img"""
+  echo 'maximilianus battery9' | tools/arn record examples/leak/hello.img
+  echo 'maximilianus battery9' | tools/arn record --try 5 examples/leak/hello.img"""
 
 
 def add_words(parser):

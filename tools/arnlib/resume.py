@@ -11,8 +11,8 @@ DESCRIPTION = """Goes on with a recording that was ended before its program ende
 computer. What is told and the status are as those of `arn record`. How processes take turns isn't kept in the log: give --round
 or --random again where the recording had it."""
 EXAMPLE = """example:
-  arn record --most 100 examples/leak/hello.img < examples/leak/leak.session
-  arn resume hello.log"""
+  echo 'maximilianus battery9' | tools/arn record --most 200 examples/leak/hello.img
+  tools/arn resume hello.log"""
 
 
 def add_words(parser):
