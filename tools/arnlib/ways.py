@@ -4,11 +4,18 @@ From one process to another a way is exact: a read's record names the event and 
 group of processes the program doesn't answer which of several receipts of a byte was used, so these are told as `one of`.
 """
 import bisect
+from typing import NamedTuple
 
 from arnlib import sources
 
 # How many instructions and received bytes are followed again for ways at most, where nobody asked for them.
 MOST_FOLLOWED = 500_000_000
+
+
+class Point(NamedTuple):
+    """Where a way ends that ends in no event: in a group of processes, before the event of this number."""
+    number: int
+    group: int | None
 
 
 class Ways:
@@ -27,9 +34,9 @@ class Ways:
         """What the group of an event had received before it."""
         return [one for one in self.received.get(event.group, ()) if one.number < event.number]
 
-    def senders(self, number):
-        """The events that gave bytes which may have come to an event, through any groups."""
-        found, left, seen = set(), [self.events[number]], {number}
+    def senders(self, end):
+        """The events that gave bytes which may have come to an event or a point, through any groups."""
+        found, left, seen = set(), [end], {end.number}
         while left:
             event = left.pop()
             before = {origin for one in self.receipts(event) for origin, _, _ in one.origins if not self.is_outside(origin)}
@@ -40,12 +47,12 @@ class Ways:
             seen |= before
         return found
 
-    def cost(self, number):
-        """How many instructions and received bytes are followed again at most for the ways to an event."""
+    def cost(self, end):
+        """How many instructions and received bytes are followed again at most for the ways to an event or a point."""
         cost = got = 0
-        senders = self.senders(number)
+        senders = self.senders(end)
         for event in self.events:
-            cost += event.moment + got if event.number in senders and event.number not in self.asked else 0
+            cost += event.moment + got if event.number in senders else 0
             got += event.length if event.is_received else 0
         return cost
 
@@ -92,21 +99,27 @@ class Ways:
                 layer[fork.number] = before[fork.number] = set().union(*earlier.values())
         return layer, before
 
-    def to(self, linkage, number, wanted):
-        """The way of source bytes to an event: steps, each some events, and whether the way is by one of these alone."""
-        steps, after, seen = [], {number: wanted}, set()
-        while after:
-            layer, before = {}, {}
-            for event, bytes_of in after.items():
-                received, given = self.step(linkage, self.events[event], bytes_of)
-                for found, more in ((layer, received), (before, given)):
-                    for one, here in more.items():
-                        found.setdefault(one, set()).update(here)
+    def to(self, linkage, end, wanted):
+        """The way of source bytes to an event or a point: steps, each some events, and whether the way is by one of these alone."""
+        steps, seen = [], set()
+        layer, before = self.step(linkage, end, wanted)
+        while layer:
             add_step(steps, layer)
             add_step(steps, {one: here for one, here in before.items() if one not in layer})
             after = {one: here for one, here in before.items() if one not in seen}
             seen |= set(after)
+            layer, before = {}, {}
+            for event, bytes_of in after.items():
+                received, given = self.step(linkage, self.events[event], bytes_of)
+                add_to(layer, received)
+                add_to(before, given)
         return steps[::-1]
+
+
+def add_to(found, more):
+    """Adds the bytes of some events to those that are found."""
+    for one, here in more.items():
+        found.setdefault(one, set()).update(here)
 
 
 def by_words(wanted):

@@ -80,25 +80,23 @@ def answers_of(asked, target, linkages, follows):
 
 
 def ways_of(asked, target, linkage, run):
-    """The way of each range of a run's sources to the last event that the run is in. Bytes of programs have none: each process has
-    them."""
+    """The way of each range of a run's sources to where the run is. Bytes of programs have none, since each process has them."""
     made = []
     for one in run.ranges[:sources.MOST_RANGES]:
         if one.stretch.name.startswith("program:"):
             made.append([])
             continue
         wanted = sources.Run(run.first, run.last, (one,)).wanted()
-        last = target.within(run.first, run.last)[-1].event
-        made.append(asked.ways.to(linkage, last, wanted))
+        made.append(asked.ways.to(linkage, asked.end_of(target, run.first, run.last), wanted))
     return tuple(made)
 
 
 def follows_ways(asked, options, found):
     """Whether ways are asked for. What takes long is said first."""
-    events = {piece.event for target in found for piece in target.pieces}
-    direct = sum(asked.history.events[event].moment for event in events) + (options.at or 0)
-    cost = sum(asked.ways.cost(event) for event in events) if options.ways != "no" else 0
-    follows = bool(events) and options.ways != "no"
+    ends = [asked.end_of(target, 0, target.length - 1) for target in found]
+    follows = options.ways != "no" and None not in ends
+    direct = sum(asked.history.events[piece.event].moment for target in found for piece in target.pieces) + (options.at or 0)
+    cost = sum(asked.ways.cost(end) for end in ends) if follows else 0
     if options.ways == "auto" and cost > ways.MOST_FOLLOWED:
         say(f"arn: without the events on the way, for which {cost:,} instructions may run again (--ways yes)")
         follows, cost = False, 0
@@ -152,10 +150,20 @@ def bytes_of(target, first, last):
 class Asked:
     """All that a question about a log needs."""
 
-    def __init__(self, log, path):
-        self.log, self.history = log, log.history()
+    def __init__(self, log, path, options):
+        self.log, self.history, self.at, self.pid = log, log.history(), options.at, options.pid
         self.inputs, self.programs = places.Inputs(self.history), symbols.Programs(path, self.history)
         self.ways = ways.Ways(log, self.history, self.inputs, places.launch(self.history))
+
+    def end_of(self, target, first, last):
+        """Where the ways to some bytes of a target end: in the last event of them, or in the process that is asked about; None for a
+        file."""
+        pieces = target.within(first, last)
+        if pieces:
+            return self.history.events[pieces[-1].event]
+        if self.pid is None:
+            return None
+        return ways.Point(asking.event_after(self.history, self.at), self.history.groups.get(self.pid))
 
     def place_of(self, event):
         """Where an event's call was made."""
@@ -164,7 +172,7 @@ class Asked:
 
 def run(options):
     with asking.opened(options) as log:
-        asked = Asked(log, options.log)
+        asked = Asked(log, options.log, options)
         found, count = chosen(asked, options)
         if count is not None and count > 1 and not options.all and not options.json:
             print(f"the last of {count:,} places (--all: each)")
