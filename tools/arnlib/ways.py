@@ -4,12 +4,16 @@ From one process to another a way is exact: a read's record names the event and 
 group of processes the program doesn't answer which of several receipts of a byte was used, so these are told as `one of`.
 """
 import bisect
+import collections
 from typing import NamedTuple
 
 from arnlib import sources
+from arnlib.past import Past
 
 # How many instructions and received bytes are followed again for ways at most, where nobody asked for them.
 MOST_FOLLOWED = 500_000_000
+# The registers in which a program begins with the address of its argument block and its length, and how long that is at most.
+BLOCK, BLOCK_LENGTH, MOST_BLOCK = 10, 11, 4096
 
 
 class Point(NamedTuple):
@@ -24,6 +28,7 @@ class Ways:
     def __init__(self, log, history, inputs, launched):
         self.log, self.events, self.inputs, self.launched = log, history.events, inputs, launched
         self.received, self.begun, self.asked = {}, {}, {}
+        self.alone = collections.Counter(history.groups.values())
         for event in self.events[launched + 1:]:
             if event.is_received:
                 self.received.setdefault(event.group, []).append(event)
@@ -83,17 +88,42 @@ class Ways:
                 found.setdefault(number, set()).update(here)
         return found
 
+    def started_anew(self, event):
+        """The last exec of a group before an event: what the group had before is gone, but for the block that was handed over. None
+        where there is none, or where the group has several processes."""
+        if self.alone.get(event.group) != 1:
+            return None
+        return next((one for one in reversed(self.receipts(event)) if one.what == "exec"), None)
+
+    def handed_over(self, linkage, started):
+        """The places in inputs that the argument block of an exec came from."""
+        key = linkage, -started.number
+        if key not in self.asked:
+            moment, process = started.moment, started.process
+            _, registers = Past(self.log, moment, process).registers
+            begin, length = registers[BLOCK], registers[BLOCK_LENGTH]
+            part = length, lambda at, count: f"mem {moment} {process} {begin + at:#x} {count}"
+            found = sources.back(self.log, self.inputs, linkage, [part]) if length <= MOST_BLOCK else {}
+            self.asked[key] = {one for here in found.values() for one in here}
+        return self.asked[key]
+
     def step(self, linkage, event, wanted):
         """How the wanted bytes came to an event's group: of each receipt, or of the fork that began the group, which of them it had;
         and the events in front of these, with the bytes that are wanted of them."""
-        layer, before, places = {}, {}, by_words(wanted)
+        layer, before, places, started = {}, {}, by_words(wanted), self.started_anew(event)
         for receipt in self.receipts(event):
+            if started is not None and receipt.number < started.number:
+                continue
             for number, here in self.carried(linkage, receipt, wanted, places).items():
                 layer.setdefault(receipt.number, set()).update(here)
                 if not self.is_outside(number):
                     before.setdefault(number, set()).update(here)
         fork = self.begun.get(event.group)
-        if fork is not None:
+        if started is not None:
+            here = self.handed_over(linkage, started) & wanted
+            if here:
+                layer[started.number] = before[started.number] = here
+        elif fork is not None:
             earlier, _ = self.step(linkage, fork, wanted)
             if earlier:
                 layer[fork.number] = before[fork.number] = set().union(*earlier.values())
