@@ -63,7 +63,8 @@ class WatchedLog(logs.AskedLog):
         """The lines of an answer."""
         self.count += 1
         now = time.monotonic()
-        if now - self.begun > PROGRESS_AFTER and now - self.last > PROGRESS_EACH and sys.stderr is not None and sys.stderr.isatty():
+        is_due = now - self.begun > PROGRESS_AFTER and now - self.last > PROGRESS_EACH
+        if is_due and sys.stderr is not None and sys.stderr.isatty():
             say(f"\r{self.count:,} lines asked in {now - self.begun:.0f} seconds ", end="")
             self.last, self.is_shown = now, True
         return super().ask(line)

@@ -2,9 +2,9 @@
 from arnlib import asking, places, sources, targets
 from arnlib.faults import FOUND, NOTHING
 
-DESCRIPTION = """Finds a text in what came in (input, files, arguments, variables, devices) and in what was written (console, files,
-devices): where it is there, its line, and its bytes in events, as `why` and `reach` take them. The status is 1 where it is
-nowhere."""
+DESCRIPTION = """Finds a text in what came in (input, files, arguments, variables, devices) and in what was written (console,
+files, devices): where it is there, its line, and its bytes in events, as `why` and `reach` take them. The status is 1 where it
+is nowhere."""
 EXAMPLE = asking.MADE + """
   tools/arn find hello.log battery9    where this text is in the input and in the output"""
 

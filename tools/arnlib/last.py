@@ -100,7 +100,8 @@ def print_change(options, change):
         return
     first, before, after = differing(change) if len(change.before) > show.MOST_SHOWN else (None, change.before, change.after)
     of = "" if first is None else f"from byte {first} on, "
-    said = f"moment {change.moment}: {of}{show.value(before)} became {show.value(after)}, {show.stands(change.place, change.where)}"
+    where = show.stands(change.place, change.where)
+    said = f"moment {change.moment}: {of}{show.value(before)} became {show.value(after)}, {where}"
     print(said + (f", event {event.number} {event.what}" if event else ""))
     print("(found by halving: an earlier or later write of the same value may stand between)")
 

@@ -24,7 +24,7 @@ def add_words(parser):
     parser.add_argument("--outputs", metavar="N,N,..", type=numbers, help="outputs whose sources are asked for, by event number")
     parser.add_argument("--most", metavar="N", type=count, default=100, help="else the last N outputs; 100 where it isn't given")
     parser.add_argument("--ways", choices=("yes", "no", "auto"), default="auto", help="whether events on the way are asked for")
-    parser.add_argument("--arguments", choices=("yes", "no", "auto"), default="auto", help="whether calls' arguments are asked for")
+    parser.add_argument("--arguments", choices=("yes", "no", "auto"), default="auto", help="whether arguments are asked for")
     parser.add_argument("--bytes", metavar="N", type=count, default=256, help="how many bytes of each event the page has, 256")
 
 

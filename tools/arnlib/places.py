@@ -248,7 +248,7 @@ class Inputs:
                 self.of[event.number] = [(0, event.length, stretch, event.place)]
 
     def find(self, event, at):
-        """The stretch that a byte of an event is in, and how far its place there is from that in the event; None for no stretch."""
+        """The stretch that a byte of an event is in, and how far its place there is from that in the event; None for none."""
         return next(((stretch, offset) for first, end, stretch, offset in self.of.get(event, ()) if first <= at < end), None)
 
     def given(self):

@@ -29,7 +29,7 @@ class Wanted(NamedTuple):
     spans: list
 
     def asked(self):
-        """What lines ask for: of each the event, the first byte, how many, and how far they are from their places in the stretch."""
+        """What lines ask for: of each the event, the first byte, how many, how far they are from their places in the stretch."""
         made = []
         for first, last in self.spans:
             at = first

@@ -45,7 +45,7 @@ def shown_memory(seen, address, length):
 
 
 def variables(seen, elf):
-    """The global variables with their addresses and bytes. What isn't in the window is passed over, as a linker's symbol may be."""
+    """The global variables with their addresses and bytes. What isn't in the window is passed over: a linker's symbols."""
     for name, (address, length) in sorted(elf.own_variables().items() if elf else (), key=lambda one: one[1]):
         if not name.startswith("_") and 0 < length <= LONGEST and (data := seen.in_window(address, length)) is not None:
             yield name, address, data
@@ -74,7 +74,8 @@ def show_all(log, options, programs, event):
 def show_registers(found):
     """Prints registers, some a line."""
     for first in range(0, len(found), REGISTERS_A_ROW):
-        print("  ".join(f"{name:4} {found[first + k]:016x}" for k, name in enumerate(targets.NAMES[first:first + REGISTERS_A_ROW])))
+        names = targets.NAMES[first:first + REGISTERS_A_ROW]
+        print("  ".join(f"{name:4} {found[first + k]:016x}" for k, name in enumerate(names)))
 
 
 def show_one(log, options, programs, event):

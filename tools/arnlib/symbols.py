@@ -138,7 +138,8 @@ class Elf:
     def frame(self, address):
         """The frame at an instruction, or None where nothing is known of it."""
         if self.functions is None:
-            self.functions = sorted(frames_in(TOOLS.run(READELF, "--debug-dump=frames-interp", self.path)), key=lambda one: one[0])
+            said = TOOLS.run(READELF, "--debug-dump=frames-interp", self.path)
+            self.functions = sorted(frames_in(said), key=lambda one: one[0])
         index = bisect.bisect_right(self.functions, address, key=lambda one: one[0]) - 1
         if index < 0 or address >= self.functions[index][1]:
             return None
@@ -274,8 +275,8 @@ class Programs:
         return name or f"at {address:#x}"
 
     def places(self, log, process, event, moment):
-        """The places at which a process stood at a moment, before an event: that of its instruction, then those of the calls above;
-        and whether these are all. `log` is anything that has `ask`."""
+        """The places at which a process stood at a moment, before an event: that of its instruction, then those of the calls
+        above; and whether these are all. `log` is anything that has `ask`."""
         elf = self.elf(process, event)
         if elf is None:
             return [], False
@@ -300,7 +301,7 @@ class Programs:
         return self.calls(log, event.process, event.number, event.moment - 1, address)
 
     def place_of(self, log, number):
-        """The innermost place outside the library from which an event's call was made, in a few words; None where none is known."""
+        """The innermost place outside the library from which an event's call was made, in few words; None where none is known."""
         if number not in self.kept_places:
             event = self.events[number]
             places = self.places(log, event.process, number, event.moment - 1)[0] if event.kind == "call" else []

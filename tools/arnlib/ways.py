@@ -74,7 +74,7 @@ class Ways:
         return self.events[number].is_input or number <= self.launched
 
     def carried(self, linkage, receipt, wanted, places):
-        """Of each event of which a receipt has some of the wanted source bytes, which these are. `places` has the same by words."""
+        """Of each event of which a receipt has some of the wanted source bytes, which these are. `places` has them by words."""
         found = {}
         for number, place, length in receipt.origins:
             if self.is_outside(number):
@@ -108,8 +108,8 @@ class Ways:
         return self.asked[key]
 
     def step(self, linkage, event, wanted):
-        """How the wanted bytes came to an event's group: of each receipt, or of the fork that began the group, which of them it had;
-        and the events in front of these, with the bytes that are wanted of them."""
+        """How the wanted bytes came to an event's group: of each receipt, or of the fork that began the group, which of them it
+        had; and the events in front of these, with the bytes that are wanted of them."""
         layer, before, places, started = {}, {}, by_words(wanted), self.started_anew(event)
         for receipt in self.receipts(event):
             if started is not None and receipt.number < started.number:

@@ -9,8 +9,8 @@ DESCRIPTION = """Says which input bytes some bytes came from: those of a text in
 those of memory, of a variable, of a register or of a file at a moment. Each byte is asked by the linkage `copy`; bytes without
 a source by `data`, then by `index` (docs/LINEAGE.md). Each answer names the events by which the bytes came, and where in the
 program their calls were made. The status is 1 where no byte came from an input."""
-EXAMPLE = """FROM and TO are the first and the last byte of an event. TEXT has C's escapes. `--json` prints an object for each run of
-bytes whose sources go on together: of, from, to, bytes (of events), hex, text, linkage, sources; of each source name, from, to,
+EXAMPLE = """FROM and TO are the first and the last byte of an event. TEXT has C's escapes. `--json` prints an object for each run
+of bytes whose sources go on together: of, from, to, bytes (of events), hex, text, linkage, sources; of each source name, from, to,
 step, bytes, line, hex, text, way.
 
 """ + asking.MADE + """
@@ -21,7 +21,7 @@ step, bytes, line, hex, text, way.
 
 
 class Answer(NamedTuple):
-    """A run of a target's bytes, the linkage that found its sources, and the way of each of their ranges, where ways are asked."""
+    """A run of a target's bytes, the linkage that found its sources, and the ways of their ranges, where these are asked."""
     linkage: str
     run: sources.Run
     steps: tuple
@@ -34,7 +34,7 @@ def add_words(parser):
     parser.add_argument("--all", action="store_true", help="each place of the text, not the last one alone")
     parser.add_argument("--linkage", choices=sources.LINKAGES, help="ask by this linkage alone")
     parser.add_argument("--ways", choices=("yes", "no", "auto"), default="auto",
-                        help=f"whether the events on the way are told; auto: where at most {ways.MOST_FOLLOWED:,} instructions run")
+                        help=f"whether events on the way are told; auto: where at most {ways.MOST_FOLLOWED:,} instructions run")
     parser.add_argument("--at", metavar="MOMENT", type=targets.number, help="what is asked is as it was at this moment")
     parser.add_argument("--pid", metavar="P", type=targets.number, help="of this process")
     parser.add_argument("--mem", metavar="ADDRESS+LEN", help="so many bytes of its memory")
