@@ -3,8 +3,8 @@ import json
 from typing import NamedTuple
 
 import arnold_log
-from arnlib import descriptors, symbols, texts
-from arnlib.faults import FAILED, say
+from arnlib import descriptors, sources, symbols, texts
+from arnlib.faults import FAILED, Fault, say
 from arnlib.program import FULL
 
 WAITS = 124
@@ -81,7 +81,10 @@ def has_ended(recording):
 
 def registers(recording, moment, process):
     """The registers of a process at a moment; the place of its instruction stands for x0."""
-    return [int(word, 16) for word in recording.dialogue.last(f"show {moment} regs {process}")[1:]]
+    words = recording.dialogue.last(f"show {moment} regs {process}")
+    if words[0] != "regs":
+        raise Fault(sources.refusal(words), FAILED)
+    return [int(word, 16) for word in words[1:]]
 
 
 def waiting(recording):

@@ -4,6 +4,8 @@ import sys
 # The statuses of questions: something was found, nothing was found, it couldn't be asked. And that of a recording that failed.
 FOUND, NOTHING, UNASKED = 0, 1, 2
 FAILED = 125
+# Those at Ctrl-C, a standard output that is closed, SIGTERM, and a terminal that went.
+INTERRUPTED, CLOSED, TERMINATED, HUNG_UP = 130, 141, 143, 129
 
 
 class Fault(Exception):

@@ -67,6 +67,15 @@ def whole_part(data):
     return data[:gate] + b"\0"
 
 
+def checked(history):
+    """A history, unless one of its events says that its bytes come from where no earlier bytes are."""
+    for event in history.events:
+        for origin, at, count in event.origins:
+            if origin >= event.number or at + count > history.events[origin].length:
+                raise arnold_log.Fault(f"this is no log of a run: event {event.number} has bytes of none that came before it")
+    return history
+
+
 class AskedLog:
     """A log with the program that answers about it, and its events. `note` says what is missing of it, if anything is."""
 
@@ -104,7 +113,7 @@ class AskedLog:
     def history(self):
         """The events of the log."""
         try:
-            return arnold_log.history_of(arnold_log.read_records(self.data))
+            return checked(arnold_log.history_of(arnold_log.read_records(self.data)))
         except arnold_log.Fault as fault:
             raise Fault(f"{texts.safe(self.path)}: {fault}") from None
 

@@ -6,10 +6,9 @@ import signal
 import sys
 
 from arnlib import texts
-from arnlib.faults import Fault, UNASKED, say
+from arnlib.faults import CLOSED, INTERRUPTED, UNASKED, Fault, say
 
 VERSION = "arn 1"
-INTERRUPTED, CLOSED = 130, 141
 
 # Of each subcommand the file that has it, and what it does. A file of that name has DESCRIPTION, EXAMPLE, `add_words(parser)`
 # and `run(options)`, which gives the status; FAULT, the status of faults, where that isn't 2; and PROGRAM_WORDS where what stands

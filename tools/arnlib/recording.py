@@ -6,17 +6,14 @@ import time
 
 from arnlib import endings, texts
 from arnlib.endings import Ending
-from arnlib.faults import FAILED, Fault, say
+from arnlib.faults import CLOSED, FAILED, HUNG_UP, INTERRUPTED, TERMINATED, Fault, say
 from arnlib.program import Dialogue, Ended
 
 AT_ONCE = 20_000_000
 PROGRESS_AFTER, PROGRESS_EACH, PROGRESS_WIDTH = 2.0, 0.5, 70
-INTERRUPTED, CLOSED, TERMINATED, HUNG_UP = 130, 141, 143, 129
 SIGNALS = {signal.SIGINT: INTERRUPTED, signal.SIGTERM: TERMINATED, signal.SIGHUP: HUNG_UP}
 # The byte that the SDK's library takes as the end of what is typed, and how much is taken of a terminal at once.
 END_OF_INPUT, MOST_TYPED = b"\x04", 65_536
-
-ending_of = endings.ending_of
 
 
 class Interrupted(Exception):
