@@ -21,7 +21,8 @@ class Interrupted(Exception):
 
 
 class Signals:
-    """Ctrl-C and its like: the first ends the recording after the line at hand, the second at once."""
+    """Ctrl-C and its like: the first ends the recording after the line at hand, or earlier where the program writes, the second
+    at once."""
 
     def __init__(self, kill):
         """`kill` ends the program at once."""
