@@ -59,7 +59,8 @@ KINDS = {
 LINES = [line.split(" ") for line in (
     "file NAME HEX", "asm NAME", "boot NAME", "type HEX", "run RUN", "unplug NUMBER", "gen NUMBER COUNT",
     "back LINKAGE event NUMBER NUMBER NUMBER", "back LINKAGE mem NUMBER NUMBER NUMBER NUMBER",
-    "back LINKAGE reg NUMBER NUMBER NUMBER", "back LINKAGE name NUMBER NAME NUMBER NUMBER", "forth LINKAGE NUMBER NUMBER NUMBER", "show NUMBER regs NUMBER",
+    "back LINKAGE reg NUMBER NUMBER NUMBER", "back LINKAGE name NUMBER NAME NUMBER NUMBER",
+    "forth LINKAGE NUMBER NUMBER NUMBER", "show NUMBER regs NUMBER",
     "show NUMBER mem NUMBER NUMBER NUMBER", "show NUMBER file NAME", "show NUMBER procs", "groups", "events", "verify")]
 
 
