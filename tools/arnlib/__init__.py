@@ -1,1 +1,1 @@
-"""The parts of `arn`. main.py has its words, the files of commands.py's table one subcommand each."""
+"""The parts of `arn`. main.py has its words and the table of its subcommands, of which each has a file of its name."""

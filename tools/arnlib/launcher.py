@@ -8,15 +8,15 @@ from typing import NamedTuple
 
 from arnlib.faults import Fault
 
-START = ".arn/start"
-INPUT = ".arn/input"
+OWN = ".arn/"
+START, INPUT = OWN + "start", OWN + "input"
 # How many bytes a `file` line carries beside a name of 64, and how many a file has at most.
 MOST_PIECE = 524_253
 MOST_FILE = 1_048_576
 
 # The argument block of the SDK's layer (sdk/unix/layer.h): its name, the counts of texts, 16 descriptions, 16 descriptors, texts.
 BLOCK_NAME = b"ARNBLK01"
-MOST_TEXTS = 3_792
+BLOCK_TEXTS, MOST_TEXTS = 304, 3_792
 CONSOLE, PLAIN = 1, 2
 READS, WRITES = 1, 2
 DESCRIPTIONS = 16
@@ -39,7 +39,7 @@ class GivenFile(NamedTuple):
         others."""
         if len(self.data) <= MOST_PIECE:
             return [self]
-        return [GivenFile(f".arn/{number}.{part}", self.data[at:at + MOST_PIECE])
+        return [GivenFile(f"{OWN}{number}.{part}", self.data[at:at + MOST_PIECE])
                 for part, at in enumerate(range(0, len(self.data), MOST_PIECE))]
 
 

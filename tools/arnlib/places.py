@@ -7,15 +7,12 @@ import bisect
 import struct
 from typing import NamedTuple
 
-from arnlib import texts
+from arnlib import launcher, texts
+from arnlib.launcher import BLOCK_NAME, BLOCK_TEXTS
+from arnlib.programs import ELF, IMAGE
 
-# Names of files that `arn record` makes for itself, and that of the program's input.
-OWN = b".arn/"
-INPUT, START = b".arn/input", b".arn/start"
-# The argument block that the launcher hands over (sdk/unix/layer.h): how it begins, and where its texts are.
-BLOCK_NAME, BLOCK_TEXTS = b"ARNBLK01", 304
-# How a program of the machine begins.
-PROGRAMS = (b"ARNIMG01", b"\x7fELF")
+# Names of files that `arn record` makes for itself, and that of the program's input, as records have them.
+OWN, INPUT, START = launcher.OWN.encode(), launcher.INPUT.encode(), launcher.START.encode()
 
 
 class Piece(NamedTuple):
@@ -68,7 +65,8 @@ class Stretch:
 
 
 class Content:
-    """A file's bytes as its writes left them. `written` is what was written: of each begin, end, event, and first byte of that."""
+    """A file's bytes as its writes left them. `written` is what was written: of each its begin, its end, the event, and the first
+    byte of that."""
 
     def __init__(self, given=b""):
         self.data, self.written = bytearray(given), []
@@ -197,7 +195,7 @@ def started_with(image):
 
 def is_program(data):
     """Whether a file is a program of the machine."""
-    return data.startswith(PROGRAMS)
+    return data.startswith((IMAGE, ELF))
 
 
 class Inputs:

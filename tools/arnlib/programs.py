@@ -8,7 +8,7 @@ from typing import NamedTuple
 
 from arnlib import texts
 from arnlib.faults import FAILED, Fault
-from arnlib.launcher import MOST_FILE
+from arnlib.launcher import MOST_FILE, OWN
 from arnlib.program import HERE, TOP
 
 NO_PROGRAM, NONE_THERE = 126, 127
@@ -52,7 +52,7 @@ def check_name(name):
     """Refuses a name that a file of the machine can't have, or that `arn` keeps for itself."""
     if not is_name(name):
         raise Fault(f"{texts.safe(name)!r} is no name of a file: 1 to 64 characters from ! to ~", FAILED)
-    if name.startswith(".arn/"):
+    if name.startswith(OWN):
         raise Fault(f"{name}: names that begin with .arn/ are arn's own", FAILED)
 
 

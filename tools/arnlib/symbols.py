@@ -171,7 +171,7 @@ def place_of(function, place):
 
 
 def frames_in(said):
-    """The functions of which readelf says how their frames are: where each begins and ends, and its frames, each from where on."""
+    """The functions whose frames readelf tells: where each begins and ends, and its frames, each from where on."""
     function, columns = None, []
     for words in map(str.split, said.splitlines()):
         if "FDE" in words or "CIE" in words:

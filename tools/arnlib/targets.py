@@ -159,7 +159,7 @@ def memory_range(word):
 
 
 def at_moment(options, variable):
-    """The target that --at and its words name. `variable` gives the address and the length of a global variable of the process."""
+    """The target that --at and its words name. `variable` gives the address and the length of a process's global variable."""
     moment, pid = options.at, options.pid
     if sum(word is not None for word in (options.file, options.mem, options.reg, options.var)) != 1:
         raise Fault("--at wants --pid with --mem, --reg or --var, or --file")

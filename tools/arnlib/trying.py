@@ -3,7 +3,7 @@ import os
 
 import arnold_log
 from arnlib import asking, places, record, texts
-from arnlib.faults import FAILED, FOUND, NOTHING, Fault, say
+from arnlib.faults import FOUND, NOTHING, Fault, say
 
 MOST_TRIES = 100_000
 # How many bytes of what was written are shown of a group.

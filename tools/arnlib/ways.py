@@ -130,7 +130,7 @@ class Ways:
         return layer, before
 
     def to(self, linkage, end, wanted):
-        """The way of source bytes to an event or a point: steps, each some events, and whether the way is by one of these alone."""
+        """The way of source bytes to an event or a point: steps, each some events, and whether it is by one of these alone."""
         steps, seen = [], set()
         layer, before = self.step(linkage, end, wanted)
         while layer:
